@@ -1,17 +1,16 @@
 //! Reading the tokens of a line.
-ghost use Rattle.std.specs.Prelude.{◌≡◌, ◌≢◌, ◌+◌, ◌≤◌, ◌<◌, ◌↔◌, ℕ, List, [], ◌∷◌, length, map, slice_range, slice_index_or, false, true, IfOk, OnErr, Err, Ok, Some, None, MatchOption};
+ghost use Rattle.std.specs.Prelude.{◌≡◌, ◌≢◌, ◌+◌, ◌≤◌, ◌<◌, ◌↔◌, ℕ, List, [], ◌∷◌, length, drop, map, slice_range, slice_index_or, false, true, IfOk, IsTrue, OnErr, Err, Ok, Some, None, MatchOption};
 ghost use Rattle.std.specs.List.{AllByRecursion};
 ghost use Rattle.hs_token.specs.declared.tokens.Token.{Token};
 ghost use Rattle.hs_token.specs.Spelling.{line_spelled, IsToken};
 ghost use Rattle.hs_token.specs.Reading.{Gives, is_second, is_bad, IsFirstBad, first_bad, fields_of, text_of, is_null, token_of, line_at};
+ghost use Rattle.hs_token.specs.Steps.{EndsPiece};
 
-use crate::tokens::{ESCAPE, PLAIN, SHIFT, Token};
+use crate::tokens::{ESCAPE, PLAIN, SHIFT, TAB, Token};
 use bytes::Bytes;
 use memchr::{memchr, memchr_iter};
 use std::alloc::{AllocError, AllocFailed, Global};
 use thiserror::Error;
-
-const TAB: u8 = 0x09;
 
 /// Why a line has no tokens.
 #[derive(Debug, Drop, Error)]
@@ -54,7 +53,8 @@ pub fn decode_line(alloc: Global, line: &Bytes) -> Result<Vec<Token>, TokenFault
 }
 
 fn first_bad(line: &[u8]) -> Option<usize>
-    ensures { result ≡ first_bad line.now }
+    ensures place { result ≡ first_bad line.now }
+    ensures bytes { AllByRecursion (λ b. b < 256) line.now }
 {
     let mut before = TAB;
     for (place, byte) in line.iter().enumerate() {
@@ -93,14 +93,27 @@ fn split(alloc: Global, line: &Bytes) -> Result<Vec<Token>, AllocError>
     let bytes = line.as_slice();
     let mut tokens = Vec::with_capacity(alloc, memchr_iter(TAB, bytes).count() + 1)?;
     let mut start = 0;
-    while let Some(len) = memchr(TAB, &bytes[start..]) {
-        tokens.push(token(alloc, line, start, start + len)?)?;
-        start += len + 1;
+    while let Some(end) = next_tab(bytes, start) {
+        tokens.push(token(alloc, line, start, end)?)?;
+        start = end + 1;
     }
     tokens.push(token(alloc, line, start, bytes.len())?)?;
     Ok(tokens)
 }
 
+/// The place of the first tab from `start` on.
+fn next_tab(bytes: &[u8], start: usize) -> Option<usize>
+    requires { start ≤ length bytes.now }
+    ensures { MatchOption result (fields_of (drop start bytes.now) ≡ drop start bytes.now ∷ [])
+        (λ end. EndsPiece bytes.now start end) }
+{
+    match memchr(TAB, &bytes[start..]) {
+        None => None,
+        Some(len) => Some(start + len),
+    }
+}
+
+/// The token that stands from `start` to `end` in a line without a bad byte.
 fn token(alloc: Global, line: &Bytes, start: usize, end: usize) -> Result<Token, AllocError>
     requires order { start ≤ end }
     requires within { end ≤ length line.now }
@@ -110,10 +123,17 @@ fn token(alloc: Global, line: &Bytes, start: usize, end: usize) -> Result<Token,
     if is_null(field) {
         return Ok(Token::Null);
     }
-    if memchr(ESCAPE, field).is_none() {
+    if is_plain(field) {
         return Ok(Token::Text(line.slice(start..end)?));
     }
     Ok(Token::Text(Bytes::from_vec(text(alloc, field)?)?))
+}
+
+/// Whether the bytes of a text are those that stand for it.
+fn is_plain(field: &[u8]) -> bool
+    ensures { IsTrue result → text_of false field.now ≡ field.now }
+{
+    memchr(ESCAPE, field).is_none()
 }
 
 fn is_null(field: &[u8]) -> bool

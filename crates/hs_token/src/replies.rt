@@ -1,11 +1,13 @@
 //! Writing a reply.
-ghost use Rattle.std.specs.Prelude.{◌≡◌, ◌++◌, List, OnOk, OnErr, decimal, []};
-ghost use Rattle.hs_token.specs.Spelling.{reply_line};
-ghost use Rattle.hs_token.specs.Appending.{Extends};
+ghost use Rattle.std.specs.Prelude.{◌≡◌, ◌++◌, List, OnOk, OnErr, decimal, ◌∷◌};
+ghost use Rattle.hs_token.specs.Spelling.{token_spelled, reply_line};
+ghost use Rattle.hs_token.specs.Steps.{Extends};
 
-use crate::tokens::{Token, append_token};
+use crate::tokens::{TAB, Token, append_token};
 use itoa::Buffer;
 use std::alloc::AllocError;
+
+const LINE_FEED: u8 = 0x0A;
 
 /// Appends a reply: the code, the number of columns, the tokens and the LF.
 pub fn push_reply(
@@ -35,13 +37,20 @@ fn append_reply(
     ensures err { OnErr result (Extends out.old.items out.new.items) }
 {
     append_number(out, code)?;
-    out.push(b'\t')?;
+    out.push(TAB)?;
     append_number(out, columns)?;
     for token in tokens {
-        out.push(b'\t')?;
-        append_token(out, token)?;
+        append_behind_tab(out, token)?;
     }
-    Ok(out.push(b'\n')?)
+    Ok(out.push(LINE_FEED)?)
+}
+
+fn append_behind_tab(out: &mut Vec<u8>, token: &Token) -> Result<(), AllocError>
+    ensures ok { OnOk result (out.new.items ≡ out.old.items ++ 9 ∷ token_spelled token.now) }
+    ensures err { OnErr result (Extends out.old.items out.new.items) }
+{
+    out.push(TAB)?;
+    append_token(out, token)
 }
 
 fn append_number(out: &mut Vec<u8>, number: u32) -> Result<(), AllocError>

@@ -1,10 +1,13 @@
 //! A token, and how its bytes are written.
-ghost use Rattle.std.specs.Prelude.{◌≡◌, ◌++◌, ℕ, List, length, OnOk, OnErr};
+ghost use Rattle.std.specs.Prelude.{◌≡◌, ◌++◌, ℕ, List, length, MatchOption, OnOk, OnErr};
 ghost use Rattle.hs_token.specs.Spelling.{text_spelled, token_spelled};
-ghost use Rattle.hs_token.specs.Appending.{Extends};
+ghost use Rattle.hs_token.specs.Steps.{Extends, EndsPlain};
 
 use bytes::Bytes;
 use std::alloc::AllocError;
+
+/// What stands between two tokens of a line.
+pub(crate) const TAB: u8 = 0x09;
 
 /// The byte before a byte of a text that would not stand for itself.
 pub(crate) const ESCAPE: u8 = 0x01;
@@ -51,11 +54,23 @@ fn append_text(out: &mut Vec<u8>, text: &[u8]) -> Result<(), AllocError>
     ensures err { OnErr result (Extends out.old.items out.new.items) }
 {
     let mut rest = text;
-    while let Some(end) = rest.iter().position(|byte| *byte < PLAIN) {
+    while let Some(end) = first_escaped(rest) {
         out.extend_from_slice(&rest[..end])?;
         out.push(ESCAPE)?;
         out.push(rest[end] + SHIFT)?;
         rest = &rest[end + 1..];
     }
     out.extend_from_slice(rest)
+}
+
+/// The place of the first byte that doesn't stand for itself.
+fn first_escaped(text: &[u8]) -> Option<usize>
+    ensures { MatchOption result (text_spelled text.now ≡ text.now) (λ end. EndsPlain text.now end) }
+{
+    for (end, byte) in text.iter().enumerate() {
+        if *byte < PLAIN {
+            return Some(end);
+        }
+    }
+    None
 }
