@@ -3,38 +3,38 @@ use super::*;
 use bytes::Bytes;
 use std::test::Fail;
 
-/// A row as a find answers it: NULL is `None`.
-const LONG_ROW: [Option<&[u8]>; 11] = [
-    Some(b"0"),
-    Some(b"3"),
-    Some(b"2"),
-    Some(b"\x00\x09\x0A\x0F\x41"),
-    Some(b"7"),
-    Some(b"3"),
-    None,
-    Some(b"8"),
-    Some(b"4"),
-    Some(b""),
-    Some(b"9"),
+/// Lines and the texts of their tokens: NULL is `None`.
+const LINES: [(&[u8], &[Option<&[u8]>]); 6] = [
+    (b"", &[Some(b"")]),
+    (b"\x00", &[None]),
+    (b"\t\x00\t", &[Some(b""), None, Some(b"")]),
+    (b"1\t3\tann", &[Some(b"1"), Some(b"3"), Some(b"ann")]),
+    (
+        b"ab\x01\x49\x10\xFF\t\x01\x40",
+        &[Some(b"ab\t\x10\xFF"), Some(b"\x00")],
+    ),
+    (
+        b"0\t3\t2\t\x01\x40\x01\x49\x01\x4A\x01\x4FA\t7\t3\t\x00\t8\t4\t\t9",
+        &[
+            Some(b"0"),
+            Some(b"3"),
+            Some(b"2"),
+            Some(b"\x00\x09\x0A\x0F\x41"),
+            Some(b"7"),
+            Some(b"3"),
+            None,
+            Some(b"8"),
+            Some(b"4"),
+            Some(b""),
+            Some(b"9"),
+        ],
+    ),
 ];
 
 #[test]
 fn lines_are_read_and_written_again(rt: HostRuntime) -> Result<(), Fail> {
     let alloc = rt.alloc();
-    for (line, texts) in [
-        (b"".as_slice(), [Some(b"".as_slice())].as_slice()),
-        (b"\x00", &[None]),
-        (b"\t\x00\t", &[Some(b""), None, Some(b"")]),
-        (b"1\t3\tann", &[Some(b"1"), Some(b"3"), Some(b"ann")]),
-        (
-            b"ab\x01\x49\x10\xFF\t\x01\x40",
-            &[Some(b"ab\t\x10\xFF"), Some(b"\x00")],
-        ),
-        (
-            b"0\t3\t2\t\x01\x40\x01\x49\x01\x4A\x01\x4FA\t7\t3\t\x00\t8\t4\t\t9",
-            LONG_ROW.as_slice(),
-        ),
-    ] {
+    for (line, texts) in LINES {
         let tokens = decode_line(alloc, &Bytes::copy_from_slice(alloc, line)?)?;
         assert_eq!(rt; tokens.len(), texts.len(), "tokens of {line:?}");
         let mut out = Vec::new(alloc);
