@@ -1,5 +1,5 @@
 -- The tokens that are read of a line spell it, and the tokens that a line spells are read.
-use Rattle.std.proofs.Common.{◌≡◌, ◌≢◌, ℕ, zero, suc, ◌+◌, ◌<◌, Bool, true, false, cond, not, ◌&&◌, eqb, leb, ltb, List, [], ◌∷◌, ◌++◌, length, map, Option, Some, None, Result, Ok, Err, refl, sym, ap, subst, ◌∙◌, arith, inl, inr, IfOk, get_or, append-nil, append_assoc, ◌↔◌, IsErrAnd}
+use Rattle.std.proofs.Common.{◌≡◌, ◌≢◌, ℕ, suc, ◌+◌, ◌<◌, true, false, leb, ltb, List, [], ◌∷◌, ◌++◌, map, Some, None, Result, Ok, Err, refl, sym, ap, subst, ◌∙◌, arith, inl, inr, get_or, append-nil, ◌↔◌, IsErrAnd}
 use Rattle.std.proofs.lemmas.Bool.{cases_lt, le-leb, lt-ltb}
 use Rattle.std.specs.List.{AllByRecursion}
 use Rattle.std.specs.Global.{Vec}
@@ -8,7 +8,7 @@ use Rattle.hs_token.specs.declared.tokens.Token.TheVariants.{Null, Text}
 use Rattle.hs_token.specs.declared.lines.TokenFault.{TokenFault}
 use Rattle.hs_token.specs.declared.lines.TokenFault.TheVariants.{BadToken, NoMemory}
 use Rattle.hs_token.specs.Spelling.{text_spelled, token_spelled, line_spelled, IsToken}
-use Rattle.hs_token.specs.Reading.{is_second, is_bad, next_byte, first_bad_from, first_bad, fields_of, token_of, line_at, Gives, IsFirstBad}
+use Rattle.hs_token.specs.Reading.{is_bad, next_byte, first_bad_from, first_bad, fields_of, token_of, line_at, Gives, IsFirstBad}
 use Rattle.hs_token.proofs.Cases.{plain, escaped, plain_is_good}
 use Rattle.hs_token.proofs.Places.{some_is, first_bad_is, is_first_bad}
 use Rattle.hs_token.proofs.Texts.{IsByteList, IsPiece, IsField, piece_spelled, token_fits, token_again, token_field}

@@ -1,6 +1,6 @@
 -- Digits and the numbers that they write.
-use Rattle.std.proofs.Common.{◌≡◌, ℕ, zero, suc, ◌+◌, ◌*◌, ◌-◌, ◌<◌, ◌≤◌, ◌^◌, ℤ, pos, negsuc, neg_ℤ, Bool, true, false, cond, ◌&&◌, eqb, leb, ltb, List, [], ◌∷◌, length, Option, Some, None, option_map, get_or, drop, refl, sym, ap, subst, ◌∙◌, arith, inl, inr, decimal, FitsSigned}
-use Rattle.std.proofs.lemmas.Bool.{leb-true, and_parts, and_right, and_left, lt-ltb, le-ltb, cases_Bool, ne_eqb}
+use Rattle.std.proofs.Common.{◌≡◌, ℕ, suc, ◌+◌, ◌*◌, ◌-◌, ◌<◌, ◌≤◌, ◌^◌, ℤ, pos, negsuc, neg_ℤ, true, false, eqb, leb, ltb, List, [], ◌∷◌, length, Some, None, option_map, get_or, drop, refl, sym, ap, subst, ◌∙◌, arith, decimal, FitsSigned}
+use Rattle.std.proofs.lemmas.Bool.{leb-true, and_parts, and_right, lt-ltb, le-ltb, ne_eqb}
 use Rattle.std.proofs.lemmas.List.{at_drop_more}
 use Rattle.std.proofs.lemmas.Str.Parse.{IsNumeralModel, numerals_by_value, tells_all_ascii_digits}
 use Rattle.std.proofs.lemmas.Fmt.{digits_decimal, digits_value-decimal, decimal_nonempty}

@@ -1,5 +1,5 @@
 -- The first bad place that is computed from the left is the first of the bad places.
-use Rattle.std.proofs.Common.{◌≡◌, ◌≢◌, ◌↔◌, ℕ, zero, suc, ◌+◌, ◌<◌, Bool, true, false, cond, List, [], ◌∷◌, Option, Some, None, length, get_or, drop, refl, sym, ap, ◌∙◌, subst, arith, inl, inr, add-one}
+use Rattle.std.proofs.Common.{◌≡◌, ℕ, zero, suc, ◌+◌, ◌<◌, Bool, true, false, List, [], ◌∷◌, Some, None, length, get_or, drop, refl, sym, ap, ◌∙◌, subst, arith, inl, inr, add-one}
 use Rattle.std.proofs.lemmas.List.{drop_more}
 use Rattle.hs_token.specs.Reading.{is_bad, is_bad_at, IsFirstBad, next_byte, first_bad_from, first_bad}
 use Rattle.hs_token.proofs.Cases.{chosen}

@@ -1,12 +1,12 @@
 -- A reply, token behind token.
-use Rattle.std.proofs.Common.{◌≡◌, ℕ, ◌+◌, ◌<◌, ◌≤◌, ◌^◌, Bool, true, leb, List, [], ◌∷◌, ◌++◌, refl, sym, ap, ◌∙◌, arith, append-nil, append_assoc, decimal, Result, Ok, Err, OnErr}
+use Rattle.std.proofs.Common.{◌≡◌, ℕ, ◌<◌, ◌≤◌, ◌^◌, true, leb, List, [], ◌∷◌, ◌++◌, refl, sym, ap, ◌∙◌, arith, append-nil, append_assoc, decimal, Result, Ok, Err, OnErr}
 use Rattle.std.proofs.lemmas.Bool.{leb-true, and_parts}
 use Rattle.std.proofs.lemmas.Fmt.{digits_decimal}
 use Rattle.std.specs.List.{AllByRecursion}
 use Rattle.std.specs.Char.{is_ascii_digit}
 use Rattle.std.specs.Str.{all_ascii_digits}
 use Rattle.hs_token.specs.declared.tokens.Token.{Token}
-use Rattle.hs_token.specs.declared.tokens.Token.TheVariants.{Null, Text}
+use Rattle.hs_token.specs.declared.tokens.Token.TheVariants.{Text}
 use Rattle.hs_token.specs.Spelling.{text_spelled, token_spelled, line_spelled, reply_line}
 use Rattle.hs_token.specs.Steps.{Extends}
 use Rattle.hs_token.proofs.Texts.{spelled-plain}

@@ -1,11 +1,11 @@
 -- A text and its spelling.
-use Rattle.std.proofs.Common.{◌≡◌, ◌≢◌, ℕ, zero, suc, ◌+◌, ◌-◌, ◌<◌, ◌≤◌, Bool, true, false, cond, eqb, leb, ltb, List, [], ◌∷◌, ◌++◌, refl, sym, ap, subst, ◌∙◌, arith, inl, inr, ◌⊎◌, append_assoc, length, Option, Some, None, is_some}
-use Rattle.std.proofs.lemmas.Bool.{leb-true, ltb-true, eqb-true, and_parts, and_right, ne_eqb, cases_lt, false_from_ne_true}
+use Rattle.std.proofs.Common.{◌≡◌, ◌≢◌, ℕ, suc, ◌+◌, ◌-◌, ◌<◌, ◌≤◌, Bool, true, false, cond, eqb, leb, ltb, List, [], ◌∷◌, ◌++◌, refl, arith, inl, inr, ◌⊎◌, length, Option, Some, None, is_some}
+use Rattle.std.proofs.lemmas.Bool.{leb-true, ltb-true, and_parts, and_right, ne_eqb, cases_lt, false_from_ne_true}
 use Rattle.std.specs.List.{AllByRecursion}
 use Rattle.memchr.specs.Find.{Passes, is_byte, IsFirstByte}
 use Rattle.hs_token.specs.declared.tokens.Token.{Token}
 use Rattle.hs_token.specs.declared.tokens.Token.TheVariants.{Null, Text}
-use Rattle.hs_token.specs.Spelling.{byte_spelled, text_spelled, token_spelled, IsToken}
+use Rattle.hs_token.specs.Spelling.{text_spelled, token_spelled, IsToken}
 use Rattle.hs_token.specs.Reading.{is_second, next_byte, text_of, is_null, token_of}
 use Rattle.hs_token.proofs.Cases.{plain, escaped}
 

@@ -1,8 +1,5 @@
-use Rattle.std.proofs.Common.{◌≡◌, ◌∙◌, ℕ, List, Some, None, Ok, Err, map, sym, ap, refl, subst, arith}
-use Rattle.std.specs.List.{AllByRecursion}
-use Rattle.hs_token.specs.declared.tokens.Token.{Token}
-use Rattle.hs_token.specs.Spelling.{line_spelled, IsToken}
-use Rattle.hs_token.specs.Reading.{first_bad, fields_of, token_of, line_at}
+use Rattle.std.proofs.Common.{◌≡◌, ◌∙◌, Some, None, Ok, sym, ap, subst}
+use Rattle.hs_token.specs.Reading.{first_bad}
 use Rattle.hs_token.proofs.Texts.{IsByteList}
 use Rattle.hs_token.proofs.LineLemmas.{refused, line_bad, line_fine, only_is, bad_is, bad_not, tokens_not_refused, memory_not_refused, found_is}
 use Rattle.hs_token.proofs.lines.decode_line.Goals as goal

@@ -1,4 +1,4 @@
-use Rattle.std.proofs.Common.{◌≡◌, ◌∙◌, ℕ, ◌+◌, true, false, get_or, sym, ap, arith}
+use Rattle.std.proofs.Common.{◌≡◌, ◌∙◌, ◌+◌, true, false, get_or, sym, ap, arith}
 use Rattle.hs_token.specs.Reading.{is_bad}
 use Rattle.hs_token.proofs.Cases.{plain_is_good}
 use Rattle.hs_token.proofs.Places.{stops, goes_on}

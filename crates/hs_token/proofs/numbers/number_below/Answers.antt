@@ -1,4 +1,4 @@
-use Rattle.std.proofs.Common.{◌≡◌, ◌≤◌, ◌∙◌, sym, arith}
+use Rattle.std.proofs.Common.{◌≤◌, ◌∙◌, sym, arith}
 use Rattle.std.specs.Str.Parse.{digits_value}
 use Rattle.hs_token.proofs.NumberLemmas.{step_ge, digit_step_ge, too_great}
 use Rattle.hs_token.proofs.numbers.number_below.Goals as goal
