@@ -1,9 +1,9 @@
 //! Reading the tokens of a line.
-ghost use Rattle.std.specs.Prelude.{◌≡◌, ◌≢◌, ◌+◌, ◌≤◌, ◌<◌, ◌↔◌, ℕ, List, [], ◌∷◌, length, drop, map, slice_range, slice_index_or, false, true, IfOk, IsTrue, OnErr, Err, Ok, Some, None, MatchOption};
+ghost use Rattle.std.specs.Prelude.{◌≡◌, ◌≢◌, ◌+◌, ◌≤◌, ◌<◌, ◌↔◌, ℕ, List, [], ◌∷◌, length, drop, map, slice_range, slice_index_or, false, IfOk, IsTrue, MatchOption};
 ghost use Rattle.std.specs.List.{AllByRecursion};
 ghost use Rattle.hs_token.specs.declared.tokens.Token.{Token};
 ghost use Rattle.hs_token.specs.Spelling.{line_spelled, IsToken};
-ghost use Rattle.hs_token.specs.Reading.{Gives, is_second, is_bad, IsFirstBad, first_bad, fields_of, text_of, is_null, token_of, line_at};
+ghost use Rattle.hs_token.specs.Reading.{Gives, is_bad, IsFirstBad, first_bad, fields_of, text_of, is_null, token_of, line_at};
 ghost use Rattle.hs_token.specs.Steps.{EndsPiece};
 
 use crate::tokens::{ESCAPE, PLAIN, SHIFT, TAB, Token};
@@ -52,6 +52,7 @@ pub fn decode_line(alloc: Global, line: &Bytes) -> Result<Vec<Token>, TokenFault
     Ok(split(alloc, line)?)
 }
 
+/// The place of the first bad byte.
 fn first_bad(line: &[u8]) -> Option<usize>
     ensures place { result ≡ first_bad line.now }
     ensures bytes { AllByRecursion (λ b. b < 256) line.now }
@@ -66,6 +67,7 @@ fn first_bad(line: &[u8]) -> Option<usize>
     None
 }
 
+/// The byte behind a place, and a tab at the line's end, since a token ends at both.
 fn byte_after(line: &[u8], place: usize) -> u8
     requires { place < length line.now }
     ensures { result ≡ slice_index_or line.now (place + 1) 9 }
@@ -77,6 +79,7 @@ fn byte_after(line: &[u8], place: usize) -> u8
     }
 }
 
+/// Whether a byte is bad between these two.
 fn is_bad(before: u8, byte: u8, after: u8) -> bool
     ensures { result ≡ is_bad before byte after }
 {
@@ -87,6 +90,7 @@ fn is_bad(before: u8, byte: u8, after: u8) -> bool
     }
 }
 
+/// The tokens of a line without a bad byte.
 fn split(alloc: Global, line: &Bytes) -> Result<Vec<Token>, AllocError>
     ensures { IfOk result (λ tokens. tokens.items ≡ map token_of (fields_of line.now)) }
 {
@@ -136,12 +140,14 @@ fn is_plain(field: &[u8]) -> bool
     memchr(ESCAPE, field).is_none()
 }
 
+/// Whether a piece is a 0x00 alone.
 fn is_null(field: &[u8]) -> bool
     ensures { result ≡ is_null field.now }
 {
     field.len() == 1 && field[0] == 0
 }
 
+/// The text of a piece without a bad byte.
 fn text(alloc: Global, field: &[u8]) -> Result<Vec<u8>, AllocError>
     ensures { IfOk result (λ text. text.items ≡ text_of false field.now) }
 {
@@ -149,6 +155,7 @@ fn text(alloc: Global, field: &[u8]) -> Result<Vec<u8>, AllocError>
     let mut is_escaped = false;
     for byte in field {
         if is_escaped {
+            // The line was checked, so that the byte is from `SHIFT` on.
             text.push(byte.saturating_sub(SHIFT))?;
             is_escaped = false;
         } else if *byte == ESCAPE {

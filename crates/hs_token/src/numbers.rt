@@ -1,5 +1,5 @@
 //! Reading the numbers that texts write in decimal.
-ghost use Rattle.std.specs.Prelude.{◌≡◌, ◌+◌, ◌≤◌, ◌<◌, ◌^◌, pos, neg_ℤ, option_map};
+ghost use Rattle.std.specs.Prelude.{◌≡◌, ◌+◌, ◌<◌, ◌^◌, pos, neg_ℤ, option_map};
 ghost use Rattle.hs_token.specs.Number.{number_below, u32_of, i64_of};
 
 /// The number below 2^32 that digits write. There is no sign, and zeros may lead.

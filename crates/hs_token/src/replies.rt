@@ -1,5 +1,5 @@
 //! Writing a reply.
-ghost use Rattle.std.specs.Prelude.{◌≡◌, ◌++◌, List, OnOk, OnErr, decimal, ◌∷◌};
+ghost use Rattle.std.specs.Prelude.{◌≡◌, ◌∷◌, ◌++◌, OnOk, OnErr, decimal};
 ghost use Rattle.hs_token.specs.Spelling.{token_spelled, reply_line};
 ghost use Rattle.hs_token.specs.Steps.{Extends};
 

@@ -1,5 +1,5 @@
 //! A token, and how its bytes are written.
-ghost use Rattle.std.specs.Prelude.{◌≡◌, ◌++◌, ℕ, List, length, MatchOption, OnOk, OnErr};
+ghost use Rattle.std.specs.Prelude.{◌≡◌, ◌++◌, MatchOption, OnOk, OnErr};
 ghost use Rattle.hs_token.specs.Spelling.{text_spelled, token_spelled};
 ghost use Rattle.hs_token.specs.Steps.{Extends, EndsPlain};
 
@@ -18,8 +18,8 @@ pub(crate) const PLAIN: u8 = 0x10;
 /// What is added to a byte below `PLAIN`, so that it stands behind an `ESCAPE`.
 pub(crate) const SHIFT: u8 = 0x40;
 
-/// What stands between two tabs.
-#[derive(Drop)]
+/// What stands between two tabs: a text may hold any bytes.
+#[derive(Debug, PartialEq, Eq, Drop)]
 pub enum Token {
     Null,
     Text(Bytes),
