@@ -1,5 +1,5 @@
 -- The tokens that are read of a line spell it, and the tokens that a line spells are read.
-use Rattle.std.proofs.Common.{◌≡◌, ◌≢◌, ℕ, suc, ◌+◌, ◌<◌, true, false, leb, ltb, List, [], ◌∷◌, ◌++◌, map, Some, None, Result, Ok, Err, refl, sym, ap, subst, ◌∙◌, arith, inl, inr, get_or, append-nil, ◌↔◌, IsErrAnd}
+use Rattle.std.proofs.Common.{Option, ◌≡◌, ◌≢◌, ℕ, suc, ◌+◌, ◌<◌, true, false, leb, ltb, List, [], ◌∷◌, ◌++◌, map, Some, None, Result, Ok, Err, refl, sym, ap, subst, ◌∙◌, arith, inl, inr, get_or, append-nil, ◌↔◌, IsErrAnd}
 use Rattle.std.proofs.lemmas.Bool.{cases_lt, le-leb, lt-ltb}
 use Rattle.std.specs.List.{AllByRecursion}
 use Rattle.std.specs.Global.{Vec}
@@ -147,3 +147,22 @@ pub found_is : (line : List ℕ) (ts : List Token) → IsByteList line → first
 found_is line ts fits e is =
     subst (λ (ts : List Token). (ts ≢ []) × AllByRecursion IsToken ts × (line ≡ line_spelled ts)) (sym is)
     (line_tokens_some line, line_tokens_fit line fits, line_tokens_spelled line e)
+
+-- ---- a line is bad or spelled
+
+pub bad_is_unspelled : (line : List ℕ) (place : ℕ) → IsFirstBad line place → (ts : List Token) → ts ≢ [] → line ≢ line_spelled ts
+bad_is_unspelled line place is ts some e =
+    let bad : line_at line ≡ Err place = line_bad line place (is_first_bad line place is) in
+    let good : line_at line ≡ Ok ts = ap line_at e ∙ line_again ts some in
+    let h = sym bad ∙ good in
+    cc
+
+abbrev pub IsSpelled : List ℕ → Type 0
+IsSpelled line = (ts : List Token) × (ts ≢ []) × (line ≡ line_spelled ts)
+
+spelled_unless : (line : List ℕ) (first : Option ℕ) → first_bad line ≡ first → ((place : ℕ) → ¬ IsFirstBad line place) → IsSpelled line
+spelled_unless line (Some place) e none = absurd (none place (first_bad_is line place e))
+spelled_unless line None e none = (map token_of (fields_of line), line_tokens_some line, line_tokens_spelled line e)
+
+pub good_is_spelled : (line : List ℕ) → ((place : ℕ) → ¬ IsFirstBad line place) → IsSpelled line
+good_is_spelled line none = spelled_unless line (first_bad line) refl none

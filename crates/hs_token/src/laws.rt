@@ -5,7 +5,7 @@ ghost use Rattle.std.specs.Fmt.{signed_decimal};
 ghost use Rattle.std.specs.List.{AllByRecursion};
 ghost use Rattle.hs_token.specs.declared.tokens.Token.{Token};
 ghost use Rattle.hs_token.specs.Spelling.{token_spelled, line_spelled, reply_line};
-ghost use Rattle.hs_token.specs.Reading.{line_at};
+ghost use Rattle.hs_token.specs.Reading.{IsFirstBad, line_at};
 ghost use Rattle.hs_token.specs.Number.{u32_of, i64_of};
 ghost use Rattle.hs_token.specs.Examples.{long_row, long_row_bytes};
 
@@ -19,6 +19,14 @@ pub fn spellings_are_unique()
 pub fn spellings_are_lines()
     ensures again { (ts : List Token) → ts ≢ [] → line_at (line_spelled ts) ≡ Ok ts }
     ensures one_line { (ts : List Token) → AllByRecursion (λ b. b ≢ 10) (line_spelled ts) }
+{}
+
+/// A line either has a first bad place or spells tokens, and never both.
+pub fn lines_are_bad_or_spelled()
+    ensures bad { (line : List ℕ) (place : ℕ) → IsFirstBad line place
+        → (ts : List Token) → ts ≢ [] → line ≢ line_spelled ts }
+    ensures spelled { (line : List ℕ) → ((place : ℕ) → ¬ IsFirstBad line place)
+        → (ts : List Token) × (ts ≢ []) × (line ≡ line_spelled ts) }
 {}
 
 /// A number in its printed form is read again.

@@ -20,8 +20,8 @@ mod tests;
 mod tokens;
 
 pub use laws::{
-    example_faults, example_lines, example_numbers, printed_numbers_are_read, spellings_are_lines,
-    spellings_are_unique,
+    example_faults, example_lines, example_numbers, lines_are_bad_or_spelled,
+    printed_numbers_are_read, spellings_are_lines, spellings_are_unique,
 };
 pub use lines::{TokenFault, decode_line};
 pub use numbers::{parse_i64, parse_u32};
