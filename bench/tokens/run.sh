@@ -24,6 +24,7 @@ rt run >"$work/build.log" 2>&1 || { tail -20 "$work/build.log"; exit 1; }
 
 cd "$work"
 set -- $(./plain) $(./crates/bench_tokens/out/bench_tokens)
+[ "$4" = 9 ] || { echo "decode_line found $4 texts in a line and not 9"; exit 1; }
 echo "plain loop, texts borrowed: $1 ns; texts of their own: $2 ns; decode_line: $3 ns for 1,000,000 tokens"
 awk -v borrowed="$1" -v owned="$2" -v proved="$3" \
   'BEGIN { printf "decode_line / borrowed: %.2f, decode_line / owned: %.2f\n", proved / borrowed, proved / owned }'
