@@ -1,3 +1,4 @@
 pub mod Order
 pub mod Fit
 pub mod Size
+pub mod Valid
