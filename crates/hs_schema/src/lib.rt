@@ -13,6 +13,7 @@ mod faults;
 mod indexes;
 mod parts;
 mod schemas;
+mod spelling;
 mod tables;
 mod tokens;
 

@@ -1,14 +1,16 @@
 //! A schema as it grows line by line.
-ghost use Rattle.std.specs.Prelude.{◌≡◌, [], OnErr};
+ghost use Rattle.std.specs.Prelude.{◌≡◌, [], IfOk, OnErr};
 ghost use Rattle.row_types.specs.declared.tables.Schema.{Schema as Held};
 ghost use Rattle.row_types.specs.Valid.{IsValid};
 ghost use Rattle.hs_schema.specs.Adding.{Adds};
+ghost use Rattle.hs_schema.specs.Spelling.{spelled};
 
 use crate::faults::{LineFault, SchemaFault};
+use crate::spelling::push_table;
 use crate::tables::table_at;
 use hs_token::Token;
 use row_types::{List, Schema};
-use std::alloc::Global;
+use std::alloc::{AllocError, Global};
 
 /// The schema without a table, which is valid. Takes no memory.
 pub fn empty(alloc: Global) -> Schema
@@ -31,6 +33,10 @@ pub trait SchemaLines {
         ensures exact { Adds (schema self.old).tables (schema self.new).tables line.now result }
         ensures err { OnErr result (schema self.new ≡ schema self.old) }
         ensures valid { IsValid (schema self.new) };
+
+    /// The table lines in order, each with its LF.
+    fn spell(&self, alloc: Global) -> Result<Vec<u8>, AllocError>
+        ensures { IfOk result (λ text. text.items ≡ spelled (schema self.now)) };
 }
 
 impl SchemaLines for Schema {
@@ -47,5 +53,13 @@ impl SchemaLines for Schema {
                 token,
             }),
         }
+    }
+
+    fn spell(&self, alloc: Global) -> Result<Vec<u8>, AllocError> {
+        let mut out = Vec::new(alloc);
+        for table in self.tables.as_slice() {
+            push_table(&mut out, alloc, table)?;
+        }
+        Ok(out)
     }
 }
