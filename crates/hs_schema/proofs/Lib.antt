@@ -4,3 +4,4 @@ pub mod IndexSteps
 pub mod Cases
 pub mod ReadFacts
 pub mod TableFacts
+pub mod Joined

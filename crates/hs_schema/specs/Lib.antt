@@ -1,3 +1,4 @@
 pub mod Reading
 pub mod Adding
 pub mod Spelling
+pub mod Examples

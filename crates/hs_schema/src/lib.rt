@@ -11,6 +11,7 @@
 mod columns;
 mod faults;
 mod indexes;
+mod laws;
 mod parts;
 mod schemas;
 mod spelling;
@@ -18,4 +19,5 @@ mod tables;
 mod tokens;
 
 pub use faults::{SchemaFault, SchemaRule};
+pub use laws::{example_breaches, example_table};
 pub use schemas::{SchemaLines, empty};

@@ -1,7 +1,7 @@
 //! The text of a schema.
 ghost use Rattle.std.specs.Prelude.{◌≡◌, [], ◌∷◌, ◌++◌, flat_map, slice_get, decimal, OnOk, OnErr, IfOk};
 ghost use Rattle.std.specs.Fmt.{signed_decimal};
-ghost use Rattle.hs_token.specs.Spelling.{line_spelled};
+ghost use Rattle.hs_token.specs.Spelling.{token_spelled, line_spelled};
 ghost use Rattle.hs_schema.specs.Spelling.{kind_text, nullness_text, index_kind_text, name_in, preset_token, column_tokens, names_text, index_tokens, table_tokens, table_line};
 
 use bytes::Bytes;
@@ -26,10 +26,20 @@ pub(crate) fn push_table(
 fn push_line(out: &mut Vec<u8>, tokens: &[Token]) -> Result<(), AllocError>
     ensures { OnOk result (out.new.items ≡ out.old.items ++ line_spelled tokens.now) }
 {
-    for (place, token) in tokens.iter().enumerate() {
-        if place > 0 {
-            out.push(b'\t')?;
+    match tokens {
+        [] => Ok(()),
+        [first, rest @ ..] => {
+            push_token(out, first)?;
+            push_behind_tabs(out, rest)
         }
+    }
+}
+
+fn push_behind_tabs(out: &mut Vec<u8>, tokens: &[Token]) -> Result<(), AllocError>
+    ensures { OnOk result (out.new.items ≡ out.old.items ++ flat_map (λ token. 9 ∷ token_spelled token) tokens.now) }
+{
+    for token in tokens {
+        out.push(b'\t')?;
         push_token(out, token)?;
     }
     Ok(())
@@ -43,13 +53,36 @@ fn table_tokens(alloc: Global, table: &TableDef) -> Result<Vec<Token>, AllocErro
     tokens.push(Token::Text(Bytes::from_static(b"table")))?;
     tokens.push(text_token(alloc, table.db.as_slice())?)?;
     tokens.push(text_token(alloc, table.name.as_slice())?)?;
-    for column in columns {
-        push_column(alloc, &mut tokens, column)?;
-    }
-    for index in table.indexes.as_slice() {
-        push_index(alloc, &mut tokens, columns, index)?;
-    }
+    push_columns(alloc, &mut tokens, columns)?;
+    push_indexes(alloc, &mut tokens, columns, table.indexes.as_slice())?;
     Ok(tokens)
+}
+
+fn push_columns(
+    alloc: Global,
+    tokens: &mut Vec<Token>,
+    columns: &[Column],
+) -> Result<(), AllocError>
+    ensures { OnOk result (tokens.new.items ≡ tokens.old.items ++ flat_map column_tokens columns.now) }
+{
+    for column in columns {
+        push_column(alloc, tokens, column)?;
+    }
+    Ok(())
+}
+
+fn push_indexes(
+    alloc: Global,
+    tokens: &mut Vec<Token>,
+    columns: &[Column],
+    indexes: &[IndexDef],
+) -> Result<(), AllocError>
+    ensures { OnOk result (tokens.new.items ≡ tokens.old.items ++ flat_map (index_tokens columns.now) indexes.now) }
+{
+    for index in indexes {
+        push_index(alloc, tokens, columns, index)?;
+    }
+    Ok(())
 }
 
 fn text_token(alloc: Global, text: &[u8]) -> Result<Token, AllocError>
@@ -132,16 +165,37 @@ fn names_token(alloc: Global, columns: &[Column], parts: &[u32]) -> Result<Token
     ensures { IfOk result (λ token. token ≡ Token.Text (names_text columns.now parts.now)) }
 {
     let mut text = Vec::new(alloc);
-    for (place, part) in parts.iter().enumerate() {
-        if place > 0 {
-            text.push(b',')?;
-        }
-        text.extend_from_slice(name_at(columns, *part))?;
-    }
+    push_names(&mut text, columns, parts)?;
     Ok(Token::Text(Bytes::from_vec(text)?))
 }
 
-fn name_at(columns: &[Column], part: u32) -> &[u8]
+fn push_names(text: &mut Vec<u8>, columns: &[Column], parts: &[u32]) -> Result<(), AllocError>
+    ensures { OnOk result (text.new.items ≡ text.old.items ++ names_text columns.now parts.now) }
+{
+    match parts {
+        [] => Ok(()),
+        [first, rest @ ..] => {
+            text.extend_from_slice(name_of(columns, *first))?;
+            push_behind_commas(text, columns, rest)
+        }
+    }
+}
+
+fn push_behind_commas(
+    text: &mut Vec<u8>,
+    columns: &[Column],
+    parts: &[u32],
+) -> Result<(), AllocError>
+    ensures { OnOk result (text.new.items ≡ text.old.items ++ flat_map (λ part. 44 ∷ name_in (slice_get columns.now part)) parts.now) }
+{
+    for part in parts {
+        text.push(b',')?;
+        text.extend_from_slice(name_of(columns, *part))?;
+    }
+    Ok(())
+}
+
+fn name_of(columns: &[Column], part: u32) -> &[u8]
     ensures { result.now ≡ name_in (slice_get columns.now part) }
 {
     match columns.get(part as usize) {

@@ -1,0 +1,54 @@
+-- A table of three columns and three indexes, as tokens and as what they say.
+use Rattle.std.specs.Prelude.{ℕ, true, false, pos, List, [], ◌∷◌, ◌++◌, codes}
+use Rattle.hs_token.specs.declared.tokens.Token.{Token}
+use Rattle.hs_token.specs.declared.tokens.Token.TheVariants as tokens
+use Rattle.row_types.specs.declared.values.Value.TheVariants as values
+use Rattle.row_types.specs.declared.columns.Kind.TheVariants.{Int, Bytes}
+use Rattle.row_types.specs.declared.columns.Column.{Column}
+use Rattle.row_types.specs.declared.indexes.IndexKind.TheVariants.{Primary, Unique, Plain}
+use Rattle.row_types.specs.declared.indexes.IndexDef.{IndexDef}
+use Rattle.row_types.specs.declared.tables.TableDef.{TableDef}
+
+-- A word of a line.
+abbrev pub word : List ℕ → Token
+word text = tokens.Text text
+
+-- table test t
+abbrev pub people_start : List Token
+people_start = word (codes "table") ∷ word (codes "test") ∷ word (codes "t") ∷ []
+
+-- c id int not NULL c name bytes:32 null NULL c n int not 0
+abbrev pub people_columns : List Token
+people_columns =
+    word (codes "c") ∷ word (codes "id") ∷ word (codes "int") ∷ word (codes "not") ∷ tokens.Null
+    ∷ word (codes "c") ∷ word (codes "name") ∷ word (codes "bytes:32") ∷ word (codes "null") ∷ tokens.Null
+    ∷ word (codes "c") ∷ word (codes "n") ∷ word (codes "int") ∷ word (codes "not") ∷ word (codes "0") ∷ []
+
+-- i PRIMARY primary id i by_n index n i by_name unique name
+abbrev pub people_indexes : List Token
+people_indexes =
+    word (codes "i") ∷ word (codes "PRIMARY") ∷ word (codes "primary") ∷ word (codes "id")
+    ∷ word (codes "i") ∷ word (codes "by_n") ∷ word (codes "index") ∷ word (codes "n")
+    ∷ word (codes "i") ∷ word (codes "by_name") ∷ word (codes "unique") ∷ word (codes "name") ∷ []
+
+-- The whole line.
+abbrev pub people_line : List Token
+people_line = people_start ++ people_columns ++ people_indexes
+
+-- An integer that forbids NULL, a text of up to 32 bytes, and an integer that is 0 where it is left out.
+abbrev pub people_shape : List Column
+people_shape =
+    record { name = codes "id"; kind = Int; null = false; preset = values.Null }
+    ∷ record { name = codes "name"; kind = Bytes 32; null = true; preset = values.Null }
+    ∷ record { name = codes "n"; kind = Int; null = false; preset = values.Int (pos 0) } ∷ []
+
+-- The table that the line says.
+abbrev pub people : TableDef
+people = record {
+  db = codes "test";
+  name = codes "t";
+  columns = people_shape;
+  indexes = record { name = codes "PRIMARY"; kind = Primary; parts = 0 ∷ [] }
+    ∷ record { name = codes "by_n"; kind = Plain; parts = 2 ∷ [] }
+    ∷ record { name = codes "by_name"; kind = Unique; parts = 1 ∷ [] } ∷ [];
+}
