@@ -16,6 +16,8 @@ mod parts;
 mod schemas;
 mod spelling;
 mod tables;
+#[cfg(test)]
+mod tests;
 mod tokens;
 
 pub use faults::{SchemaFault, SchemaRule};
