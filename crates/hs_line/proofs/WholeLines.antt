@@ -1,0 +1,1 @@
+-- Lines that are not too long, one by one.
