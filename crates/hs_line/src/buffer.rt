@@ -3,10 +3,9 @@ ghost use Rattle.std.specs.Prelude.{◌≡◌, ◌+◌, ◌≤◌, [], ◌∷◌
 ghost use Rattle.hs_line.specs.Lines.{has_lf, lines_of, rest_of, is_too_long};
 
 use crate::limits::{BUFFER_SIZE, MAX_LINE_LEN};
-use crate::search::first_line_len;
+use crate::search::{first_line_len, first_line_len_with, rest_len};
 use crate::space::{remove_front, restart};
 use bytes::Bytes;
-use memchr::memrchr;
 use std::alloc::{AllocError, Global};
 use std::marker::Model;
 
@@ -67,11 +66,7 @@ impl LineBuf {
             remove_front(&mut self.bytes, self.taken);
             self.taken = 0;
         }
-        if self.line_len.is_none()
-            && let Some(len) = first_line_len(piece)
-        {
-            self.line_len = Some(self.bytes.len() - self.taken + len);
-        }
+        self.line_len = first_line_len_with(self.line_len, self.bytes.len() - self.taken, piece);
         if self.bytes.extend_from_slice(piece).is_err() {
             unreachable!();
         }
@@ -114,10 +109,7 @@ impl LineBuf {
         if self.line_len.is_none() {
             return held.len();
         }
-        match memrchr(b'\n', held) {
-            Some(last) => held.len() - (last + 1),
-            None => held.len(),
-        }
+        rest_len(held)
     }
 
     /// Whether the first line has more than `MAX_LINE_LEN` bytes, even if its LF is still to come.
