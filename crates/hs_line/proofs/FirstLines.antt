@@ -43,7 +43,7 @@ FirstLine-stays held piece n first =
     let back : drop (n + 1) (held ++ piece) ≡ drop (n + 1) held ++ piece = drop-append-le (n + 1) held piece (omega arith) in (
       ap has_lf front ∙ first.0,
       ap (λ (l : List ℕ). l ++ 10 ∷ drop (n + 1) (held ++ piece)) front ∙ ap (λ (l : List ℕ). take n held ++ 10 ∷ l) back
-      ∙ sym (append_assoc (take n held) (10 ∷ drop (n + 1) held) piece) ∙ ap (λ (l : List ℕ). l ++ piece) first.1,
+          ∙ sym (append_assoc (take n held) (10 ∷ drop (n + 1) held) piece) ∙ ap (λ (l : List ℕ). l ++ piece) first.1,
     )
 
 -- where none was held, the first line ends in the piece, or none does
@@ -57,7 +57,7 @@ FirstLine-new held piece n none first =
     let back : drop (length held + n + 1) (held ++ piece) ≡ drop (n + 1) piece = ap (λ (k : ℕ). drop k (held ++ piece)) on ∙ drop-append-add held piece (n + 1) in (
       ap has_lf front ∙ FirstLine-none held (take n piece) none first.0,
       ap (λ (l : List ℕ). l ++ 10 ∷ drop (length held + n + 1) (held ++ piece)) front ∙ ap (λ (l : List ℕ). (held ++ take n piece) ++ 10 ∷ l) back
-      ∙ append_assoc held (take n piece) (10 ∷ drop (n + 1) piece) ∙ ap (λ (l : List ℕ). held ++ l) first.1,
+          ∙ append_assoc held (take n piece) (10 ∷ drop (n + 1) piece) ∙ ap (λ (l : List ℕ). held ++ l) first.1,
     )
 
 -- the first line and what follows it
@@ -84,9 +84,9 @@ rest_of-at bytes n low lf none =
 pub rest_of-found : (bytes : List ℕ) (n : ℕ) → IsLastByte (is_byte 10) bytes (Some n) → length (rest_of bytes) ≡ length bytes - (n + 1)
 rest_of-found bytes n found =
     let none : IsLine (drop (n + 1) bytes) = no_lf_before (drop (n + 1) bytes) (λ k below.
-        let size : length (drop (n + 1) bytes) ≡ length bytes - (n + 1) = length-drop (n + 1) bytes in
-        let same : get_or (drop (n + 1) bytes) k 0 ≡ get_or bytes (n + 1 + k) 0 = get_or-drop (n + 1) bytes k 0 in
-        ap (λ (b : ℕ). eqb b 10) same ∙ false_from_ne_true (eqb (get_or bytes (n + 1 + k) 0) 10) (found.0.after (n + 1 + k) (omega arith) (omega arith))) in
+    let size : length (drop (n + 1) bytes) ≡ length bytes - (n + 1) = length-drop (n + 1) bytes in
+    let same : get_or (drop (n + 1) bytes) k 0 ≡ get_or bytes (n + 1 + k) 0 = get_or-drop (n + 1) bytes k 0 in
+    ap (λ (b : ℕ). eqb b 10) same ∙ false_from_ne_true (eqb (get_or bytes (n + 1 + k) 0) 10) (found.0.after (n + 1 + k) (omega arith) (omega arith))) in
     ap length (rest_of-at bytes n found.0.high found.1 none) ∙ length-drop (n + 1) bytes
 
 pub rest_of-found_none : (bytes : List ℕ) → IsLastByte (is_byte 10) bytes None → length (rest_of bytes) ≡ length bytes

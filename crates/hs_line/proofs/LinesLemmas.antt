@@ -1,5 +1,5 @@
 -- Lines and rest of bytes that are put together, and the one way in which a stream is cut.
-use Rattle.std.proofs.Common.{◌≡◌, ℕ, Bool, true, false, ◌||◌, ◌==◌, eqb, List, [], ◌∷◌, ◌++◌, refl, sym, ap, ◌∙◌, append_assoc, ⊎_elim}
+use Rattle.std.proofs.Common.{◌≡◌, ℕ, Bool, true, false, ◌||◌, ◌==◌, eqb, List, [], ◌∷◌, ◌++◌, length, refl, sym, ap, ◌∙◌, append_assoc, ⊎_elim}
 use Rattle.std.specs.List.{AllByRecursion}
 use Rattle.std.proofs.lemmas.List.Folds.{list_any-append}
 use Rattle.std.proofs.lemmas.Bool.{cases_Bool, or_parts, or_cases, or_left, or_right, both_ways, eqb-true}
@@ -71,6 +71,16 @@ first_line_found (b ∷ bytes) is =
     (λ other. with_byte b bytes other (first_line_found bytes (sym (ap (λ (t : Bool). t || has_lf bytes) other) ∙ is)))
     (cases_Bool (eqb b 10))
 
+-- no line is held where there is no LF, and only there
+pub IsLine-no_lines : (bytes : List ℕ) → lines_of bytes ≡ [] → IsLine bytes
+IsLine-no_lines bytes none =
+    ⊎_elim (λ is.
+    let found = first_line_found bytes is in
+    let first : lines_of bytes ≡ found.line ∷ lines_of found.more = ap lines_of found.parts ∙ lines_of-line found.line found.more found.is_line in
+    cc)
+    (λ no_lf. no_lf)
+    (cases_Bool (has_lf bytes))
+
 -- a byte goes to the front of the first line, whatever lines follow
 onto_first-append : (b : ℕ) (bytes : List ℕ) (more : List (List ℕ)) → has_lf bytes ≡ true → onto_first b (lines_of bytes ++ more) ≡ onto_first b (lines_of bytes) ++ more
 onto_first-append b bytes more is =
@@ -84,8 +94,8 @@ module _ (ys : List ℕ) where
   lines_of-append_held b bytes later is =
       ⊎_elim (λ here. rw here (ap (λ (l : List (List ℕ)). [] ∷ l) later))
       (λ other.
-          let ends : has_lf bytes ≡ true = sym (ap (λ (t : Bool). t || has_lf bytes) other) ∙ is in
-          rw other (ap (onto_first b) later ∙ onto_first-append b bytes (lines_of (rest_of bytes ++ ys)) ends))
+      let ends : has_lf bytes ≡ true = sym (ap (λ (t : Bool). t || has_lf bytes) other) ∙ is in
+      rw other (ap (onto_first b) later ∙ onto_first-append b bytes (lines_of (rest_of bytes ++ ys)) ends))
       (cases_Bool (eqb b 10))
 
   pub lines_of-append-of : (xs : List ℕ) → lines_of (xs ++ ys) ≡ lines_of xs ++ lines_of (rest_of xs ++ ys)
@@ -139,8 +149,8 @@ joined-held : (b : ℕ) (bytes : List ℕ) → joined (lines_of bytes) (rest_of 
 joined-held b bytes later is =
     ⊎_elim (λ here. rw here (ap (λ (l : List ℕ). 10 ∷ l) later ∙ ap (λ (n : ℕ). n ∷ bytes) (sym (eqb-true b 10 here))))
     (λ other.
-        let ends : has_lf bytes ≡ true = sym (ap (λ (t : Bool). t || has_lf bytes) other) ∙ is in
-        rw other (joined-onto_first b bytes (rest_of bytes) ends ∙ ap (λ (l : List ℕ). b ∷ l) later))
+    let ends : has_lf bytes ≡ true = sym (ap (λ (t : Bool). t || has_lf bytes) other) ∙ is in
+    rw other (joined-onto_first b bytes (rest_of bytes) ends ∙ ap (λ (l : List ℕ). b ∷ l) later))
     (cases_Bool (eqb b 10))
 
 pub joined-lines_of : (bytes : List ℕ) → joined (lines_of bytes) (rest_of bytes) ≡ bytes
@@ -159,3 +169,15 @@ lines_of-joined (line ∷ lines) rest each is =
 pub rest_of-joined : (lines : List (List ℕ)) (rest : List ℕ) → IsLine rest → rest_of (joined lines rest) ≡ rest
 rest_of-joined [] rest is = rest_of-none rest is
 rest_of-joined (line ∷ lines) rest is = rest_of-line line (joined lines rest) ∙ rest_of-joined lines rest is
+
+-- what came before without an LF adds no line
+length-onto_first : (b : ℕ) (lines : List (List ℕ)) → length (onto_first b lines) ≡ length lines
+length-onto_first b [] = refl
+length-onto_first b (line ∷ lines) = refl
+
+pub length-lines_of-after : (held piece : List ℕ) → IsLine held → length (lines_of (held ++ piece)) ≡ length (lines_of piece)
+length-lines_of-after [] piece is = refl
+length-lines_of-after (b ∷ bytes) piece is =
+    let parts = or_parts (eqb b 10) (has_lf bytes) is in
+    let other : eqb b 10 ≡ false = parts.0 in
+    rw other (length-onto_first b (lines_of (bytes ++ piece)) ∙ length-lines_of-after bytes piece parts.1)

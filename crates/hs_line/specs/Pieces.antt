@@ -1,5 +1,6 @@
 -- A stream that comes in pieces.
 use Rattle.std.specs.Prelude.{ℕ, ◌+◌, ◌≤◌, List, [], ◌∷◌, ◌++◌, length}
+use Rattle.hs_line.specs.Lines.{lines_of}
 use Rattle.hs_line.specs.declared.pieces.Piece.{Piece}
 
 -- the bytes of the pieces, one after another
@@ -12,6 +13,6 @@ abbrev pub most_taken : List Piece → ℕ
 most_taken [] = 0
 most_taken (piece ∷ pieces) = piece.takes + most_taken pieces
 
--- as many lines are asked for as can end in the piece
+-- as many lines are asked for as end in the piece
 abbrev pub IsDrained : Piece → Type 0
-IsDrained piece = length piece.bytes ≤ piece.takes
+IsDrained piece = length (lines_of piece.bytes) ≤ piece.takes

@@ -1,7 +1,7 @@
 //! A stream in pieces, pushed one after another, with lines taken in between.
-ghost use Rattle.std.specs.Prelude.{◌≡◌, ◌+◌, ◌<◌, ◌≤◌, ◌++◌, false, length, take, sum_by, vec_len, slice_get, IfOk, OnOk, IfSome};
+ghost use Rattle.std.specs.Prelude.{◌≡◌, ◌+◌, ◌<◌, ◌≤◌, [], ◌++◌, length, take, vec_len, slice_get, IfOk, OnOk, IfSome};
 ghost use Rattle.std.specs.List.{AllByRecursion};
-ghost use Rattle.hs_line.specs.Lines.{has_lf, lines_of, rest_of};
+ghost use Rattle.hs_line.specs.Lines.{lines_of, rest_of};
 ghost use Rattle.hs_line.specs.Pieces.{stream_of, most_taken, IsDrained};
 
 use crate::buffer::LineBuf;
@@ -30,7 +30,7 @@ fn take_lines(held: &mut LineBuf, lines: &mut Vec<Bytes>, asked: usize) -> Resul
     ensures lines { lines.new.items ++ lines_of held.new ≡ lines.old.items ++ lines_of held.old }
     ensures rest { rest_of held.new ≡ rest_of held.old }
     ensures asked { vec_len lines.new ≤ vec_len lines.old + asked }
-    ensures drained { OnOk result (length held.old ≤ asked → has_lf held.new ≡ false) }
+    ensures drained { OnOk result (length (lines_of held.old) ≤ asked → lines_of held.new ≡ []) }
 {
     for _ in 0..asked {
         lines.reserve(1)?;
@@ -51,28 +51,30 @@ pub fn cut_pieces(alloc: Global, pieces: &[Piece]) -> Result<Cut, AllocError>
     ensures rest { IfOk result (λ cut. rest_of cut.held ≡ rest_of (stream_of (take cut.pushed pieces.now))) }
 
     // No more lines than were asked for, and all of them where each piece asks for enough.
-    ensures asked { IfOk result (λ cut. vec_len cut.lines ≤ most_taken pieces.now) }
-    ensures drained { IfOk result (λ cut. AllByRecursion IsDrained pieces.now → has_lf cut.held ≡ false) }
+    ensures asked { IfOk result (λ cut. vec_len cut.lines ≤ most_taken (take cut.pushed pieces.now)) }
+    ensures drained { IfOk result (λ cut. AllByRecursion IsDrained pieces.now → lines_of cut.held ≡ []) }
 
     // Only a piece that does not fit ends it early.
     ensures pushed { IfOk result (λ cut. cut.pushed ≤ length pieces.now) }
-    ensures stops { IfOk result (λ cut. cut.pushed < length pieces.now →
-        IfSome (slice_get pieces.now cut.pushed) (λ piece. BUFFER_SIZE < length cut.held + length piece.bytes)) }
+    ensures stops { IfOk result (λ cut. IfSome (slice_get pieces.now cut.pushed) (λ piece.
+        BUFFER_SIZE < length cut.held + length piece.bytes)) }
 {
     let mut held = LineBuf::new(alloc)?;
     let mut lines = Vec::new(alloc);
-    let mut pushed = 0;
-    for piece in pieces {
+    for (pushed, piece) in pieces.iter().enumerate() {
         if held.room() < piece.bytes.len() {
-            break;
+            return Ok(Cut {
+                lines,
+                held,
+                pushed,
+            });
         }
         held.push(&piece.bytes);
         take_lines(&mut held, &mut lines, piece.takes)?;
-        pushed += 1;
     }
     Ok(Cut {
         lines,
         held,
-        pushed,
+        pushed: pieces.len(),
     })
 }

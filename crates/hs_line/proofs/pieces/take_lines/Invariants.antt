@@ -1,4 +1,4 @@
-use Rattle.std.proofs.Common.{◌≡◌, ℕ, ◌+◌, ◌<◌, ◌≤◌, ◌++◌, length, vec_len}
+use Rattle.std.proofs.Common.{◌≡◌, ℕ, ◌+◌, ◌≤◌, ◌++◌, length, vec_len}
 use Rattle.hs_line.specs.Lines.{lines_of, rest_of}
 use Rattle.hs_line.proofs.pieces.take_lines.Given as goal
 
@@ -6,4 +6,4 @@ abbrev pub invariant-loop : goal.invariant-loop
 invariant-loop l = (l.lines.items ++ lines_of l.held ≡ l.fn.lines.items ++ lines_of l.fn.held)
     × (rest_of l.held ≡ rest_of l.fn.held)
     × (vec_len l.lines ≤ vec_len l.fn.lines + l.counter)
-    × (length l.held + l.counter ≤ length l.fn.held)
+    × (length (lines_of l.held) + l.counter ≤ length (lines_of l.fn.held))
