@@ -3,8 +3,6 @@ use crate::{Cut, LineBuf, Piece, cut_pieces};
 use bytes::Bytes;
 use std::alloc::{AllocError, Global};
 
-const REQUESTS: &[u8; 51] = b"P\t1\ttest\tt\tPRIMARY\tid,name,n\n1\t+\t3\t1\tann\t5\n1\t=\t1\t1\n";
-
 // Pushes as many bytes of the piece as fit, and says how many.
 fn push_some(buffer: &mut LineBuf, piece: &[u8]) -> usize {
     let count = piece.len().min(buffer.room());
@@ -15,24 +13,24 @@ fn push_some(buffer: &mut LineBuf, piece: &[u8]) -> usize {
 #[test]
 fn three_requests_come_byte_by_byte(rt: HostRuntime) -> Result<(), AllocError> {
     let mut buffer = LineBuf::new(rt.alloc())?;
-    let mut first = 0;
-    for (at, byte) in REQUESTS.iter().enumerate() {
-        push_some(&mut buffer, &[*byte]);
-        let ends = *byte == b'\n';
-        assert_eq!(rt; buffer.has_line(), ends, "after byte {at}");
-        assert_eq!(rt;
-            buffer.rest_len(),
-            if ends { 0 } else { at + 1 - first },
-            "after byte {at}"
-        );
-        if let Some(line) = buffer.take_line()? {
-            assert_eq!(rt; line.as_slice(), &REQUESTS[first..at], "after byte {at}");
-            first = at + 1;
+    let requests: [&[u8]; 3] = [
+        b"P\t1\ttest\tt\tPRIMARY\tid,name,n",
+        b"1\t+\t3\t1\tann\t5",
+        b"1\t=\t1\t1",
+    ];
+    for request in requests {
+        for (at, byte) in request.iter().enumerate() {
+            push_some(&mut buffer, &[*byte]);
+            assert!(rt; !buffer.has_line(), "after byte {at}");
+            assert!(rt; buffer.take_line()?.is_none(), "after byte {at}");
+            assert_eq!(rt; buffer.rest_len(), at + 1);
         }
-        assert!(rt; !buffer.has_line(), "after byte {at}");
+        push_some(&mut buffer, b"\n");
+        assert!(rt; buffer.has_line());
+        let line = buffer.take_line()?.unwrap_or_default();
+        assert_eq!(rt; line.as_slice(), request);
+        assert_eq!(rt; buffer.room(), 131_072);
     }
-    assert_eq!(rt; first, 51);
-    assert_eq!(rt; buffer.room(), 131_072);
     Ok(())
 }
 
@@ -72,30 +70,49 @@ fn a_line_may_have_65536_bytes_and_no_more(rt: HostRuntime) -> Result<(), AllocE
     Ok(())
 }
 
-#[test]
-fn a_full_buffer_is_emptied_and_filled_again(rt: HostRuntime) -> Result<(), AllocError> {
-    let mut buffer = LineBuf::new(rt.alloc())?;
-    let line = vec![in rt.alloc(); b'y'; 999]?;
-    let mut taken = 0;
-    let mut pushed = 0;
-    // Lines of 999 bytes stay behind one another: bytes are moved to the front again and again.
-    for turn in 0..1_000 {
-        while buffer.room() >= 1_000 {
-            push_some(&mut buffer, &line);
-            push_some(&mut buffer, b"\n");
-            pushed += 1;
-        }
-        for _ in 0..7 {
-            match buffer.take_line()? {
-                Some(got) => assert!(rt; got.as_slice() == line.as_slice(), "turn {turn}"),
-                None => assert!(rt; false, "turn {turn}"),
-            }
-            taken += 1;
-        }
+// Pushes the line and its LF, and says whether all of it fitted.
+fn pushes(buffer: &mut LineBuf, line: &[u8]) -> bool {
+    push_some(buffer, line) == line.len() && push_some(buffer, b"\n") == 1
+}
+
+// Takes a line, and says whether it is this one.
+fn takes(buffer: &mut LineBuf, line: &[u8]) -> Result<bool, AllocError> {
+    match buffer.take_line()? {
+        Some(taken) => Ok(taken.as_slice() == line),
+        None => Ok(false),
     }
-    assert_eq!(rt; taken, 7_000);
-    assert_eq!(rt; pushed, 7_124);
-    assert_eq!(rt; buffer.room(), 131_072 - 124_000);
+}
+
+#[test]
+fn held_bytes_stay_when_they_move_to_the_front(rt: HostRuntime) -> Result<(), AllocError> {
+    let mut buffer = LineBuf::new(rt.alloc())?;
+    let long = vec![in rt.alloc(); b'y'; 999]?;
+    let short = vec![in rt.alloc(); b'z'; 400]?;
+    for turn in 0..90 {
+        assert!(rt;
+            pushes(&mut buffer, &long) && pushes(&mut buffer, &short),
+            "fill {turn}"
+        );
+    }
+    // Nine tenths are held all the time, so every fiftieth turn or so has no room behind them.
+    for turn in 0..1_000 {
+        assert!(rt;
+            pushes(&mut buffer, &long) && pushes(&mut buffer, &short),
+            "turn {turn}"
+        );
+        assert!(rt;
+            takes(&mut buffer, &long)? && takes(&mut buffer, &short)?,
+            "turn {turn}"
+        );
+        assert_eq!(rt; buffer.room(), 4_982, "turn {turn}");
+    }
+    for turn in 0..90 {
+        assert!(rt;
+            takes(&mut buffer, &long)? && takes(&mut buffer, &short)?,
+            "rest {turn}"
+        );
+    }
+    assert_eq!(rt; buffer.room(), 131_072);
     Ok(())
 }
 
