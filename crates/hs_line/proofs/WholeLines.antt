@@ -1,9 +1,9 @@
 -- Lines that are not too long, one by one: stated over any limit.
-use Rattle.std.proofs.Common.{◌≡◌, ℕ, suc, ◌+◌, ◌-◌, ◌<◌, ◌≤◌, ◌↔◌, Bool, true, false, not, ◌&&◌, ◌||◌, nat_lt, nat_le, ltb, leb, List, [], ◌∷◌, ◌++◌, length, take, drop, refl, sym, ap, ◌∙◌, arith, zero-add, suc-add, if◌then◌else◌, length-append, ⊎_elim}
+use Rattle.std.proofs.Common.{◌≡◌, ℕ, suc, ◌+◌, ◌-◌, ◌<◌, ◌≤◌, Bool, true, false, not, ◌&&◌, nat_lt, nat_le, ltb, leb, List, [], ◌∷◌, ◌++◌, length, take, drop, refl, sym, ap, ◌∙◌, arith, zero-add, suc-add, if◌then◌else◌, length-append, ⊎_elim}
 use Rattle.std.specs.List.{take_while}
-use Rattle.std.proofs.lemmas.List.{take-append-drop, take-append-le, append_assoc}
+use Rattle.std.proofs.lemmas.List.{take-append-drop, take-append-le}
 use Rattle.std.proofs.lemmas.List.Sums.{take_while-cons}
-use Rattle.std.proofs.lemmas.Bool.{cases_Bool, cases_lt, or_parts, and_parts, and_from, and_left, and_right, both_ways, not-true, not_from_true, not_from_false, ltb-true, lt-ltb, le-ltb, le-leb, lt-leb, cond-true, cond-false}
+use Rattle.std.proofs.lemmas.Bool.{cases_Bool, cases_lt, or_parts, and_parts, and_from, and_left, and_right, not-true, not_from_true, not_from_false, ltb-true, lt-ltb, le-ltb, le-leb, lt-leb, cond-true, cond-false}
 use Rattle.hs_line.specs.Lines.{has_lf, IsLine, lines_of}
 use Rattle.hs_line.proofs.LinesLemmas.{has_lf-append, has_lf-line, lines_of-none, lines_of-line, StartsWithLine, first_line_found}
 

@@ -1,7 +1,6 @@
 -- What a buffer keeps beside its bytes: how long the first line is.
-use Rattle.std.specs.Prelude.{◌≡◌, ℕ, ◌+◌, ◌≤◌, List, ◌∷◌, ◌++◌, Option, Some, None, take, drop}
+use Rattle.std.specs.Prelude.{◌≡◌, ℕ, ◌+◌, List, ◌∷◌, ◌++◌, Option, Some, None, take, drop}
 use Rattle.hs_line.specs.Lines.{IsLine}
-use Rattle.hs_line.specs.declared.limits.TheConstants.{BUFFER_SIZE}
 
 -- the first line of these bytes has this length, and None says that they have no line
 abbrev pub FirstLine : List ℕ → Option ℕ → Type 0

@@ -9,14 +9,14 @@ use bytes::Bytes;
 use std::alloc::{AllocError, Global};
 use std::marker::Model;
 
-// With this much more than is ever held, held bytes are moved to the front only after at least half as many were
-// taken, so that a stream costs time in proportion to its bytes however it is pushed and taken.
+// With this much more than is ever held, held bytes are moved to the front only once more than half as many were
+// taken since the last move, so that a stream costs time in proportion to its bytes however it is pushed and taken.
 const RESERVED: usize = BUFFER_SIZE + MAX_LINE_LEN;
 
 /// Bytes of a stream that were received and not taken yet, at most `BUFFER_SIZE` of them.
 ///
-/// All its memory is taken by `new`. Each byte is looked at once in the search for an LF, and copied once when its
-/// line is taken.
+/// All its memory is taken by `new`. Each byte is looked at once in the search for an LF, and copied out once when
+/// its line is taken.
 #[derive(Drop)]
 pub struct LineBuf {
     bytes: Vec<u8>,
@@ -35,6 +35,7 @@ impl Model for LineBuf {
 
     ghost view = { λ b. drop b.taken b.bytes.items };
 
+    // The room stays reserved, no more is taken than came and no more held than may be, and the first line is known.
     ghost invariant = { λ b. (BUFFER_SIZE ≤ vec_capacity b.bytes) × (b.taken ≤ vec_len b.bytes)
         × (vec_len b.bytes ≤ b.taken + BUFFER_SIZE) × FirstLine (drop b.taken b.bytes.items) b.line_len };
 }

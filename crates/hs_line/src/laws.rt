@@ -19,7 +19,7 @@ pub fn lines_as_they_come()
     ensures lines { (bytes more : List ℕ) → lines_of (bytes ++ more) ≡ lines_of bytes ++ lines_of (rest_of bytes ++ more) }
     ensures rest { (bytes more : List ℕ) → rest_of (bytes ++ more) ≡ rest_of (rest_of bytes ++ more) }
     ensures first { (line more : List ℕ) → IsLine line → lines_of (line ++ 10 ∷ more) ≡ line ∷ lines_of more }
-    ensures none { (bytes : List ℕ) → IsLine bytes → lines_of bytes ≡ [] }
+    ensures none { (bytes : List ℕ) → IsLine bytes ↔ (lines_of bytes ≡ []) }
 {}
 
 /// What `is_too_long` says before each line is taken, and the lines that are taken so.

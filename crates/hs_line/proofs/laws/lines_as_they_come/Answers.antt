@@ -1,4 +1,4 @@
-use Rattle.hs_line.proofs.LinesLemmas.{lines_of-append, rest_of-append, lines_of-line, lines_of-none}
+use Rattle.hs_line.proofs.LinesLemmas.{lines_of-append, rest_of-append, lines_of-line, lines_of-none, IsLine-no_lines}
 use Rattle.hs_line.proofs.laws.lines_as_they_come.Goals as goal
 
 pub returns-clause-lines : goal.returns-clause-lines
@@ -11,4 +11,4 @@ pub returns-clause-first : goal.returns-clause-first
 returns-clause-first c = lines_of-line
 
 pub returns-clause-none : goal.returns-clause-none
-returns-clause-none c = lines_of-none
+returns-clause-none c bytes = (lines_of-none bytes, IsLine-no_lines bytes)

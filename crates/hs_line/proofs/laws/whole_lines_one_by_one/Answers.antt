@@ -1,4 +1,4 @@
-use Rattle.std.proofs.Common.{◌≡◌, ℕ, ◌≤◌, false, List, ◌∷◌, ◌++◌, length, ltb, sym, ◌∙◌}
+use Rattle.std.proofs.Common.{◌≡◌, ◌∷◌, ◌++◌, length, ltb, sym, ◌∙◌}
 use Rattle.std.proofs.lemmas.Bool.{ltb-false, le-ltb}
 use Rattle.hs_line.specs.Lines.{is_too_long}
 use Rattle.hs_line.proofs.WholeLines.{too_long-says, too_long-since, too_long-line, whole-none, whole-line, whole-stops}

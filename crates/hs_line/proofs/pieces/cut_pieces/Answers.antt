@@ -1,7 +1,5 @@
-use Rattle.std.proofs.Common.{◌≡◌, ℕ, ◌+◌, ◌<◌, ◌≤◌, List, [], ◌++◌, length, take, Option, Some, IfSome, sym, ap, ◌∙◌, subst, arith}
-use Rattle.std.specs.List.{AllByRecursion}
+use Rattle.std.proofs.Common.{◌≡◌, ℕ, ◌+◌, ◌<◌, ◌≤◌, List, ◌++◌, length, take, sym, ap, ◌∙◌, arith}
 use Rattle.hs_line.specs.declared.pieces.Piece.{Piece}
-use Rattle.hs_line.specs.declared.limits.TheConstants.{BUFFER_SIZE}
 use Rattle.hs_line.specs.Lines.{lines_of, rest_of}
 use Rattle.hs_line.specs.Pieces.{stream_of, IsDrained}
 use Rattle.hs_line.proofs.LinesLemmas.{IsLine-no_lines, length-lines_of-after}

@@ -1,4 +1,4 @@
-use Rattle.std.proofs.Common.{◌≡◌, ℕ, ◌≤◌, ◌++◌, [], length, take, vec_len}
+use Rattle.std.proofs.Common.{◌≡◌, ◌≤◌, ◌++◌, [], take, vec_len}
 use Rattle.std.specs.List.{AllByRecursion}
 use Rattle.hs_line.specs.Lines.{lines_of, rest_of}
 use Rattle.hs_line.specs.Pieces.{stream_of, most_taken, IsDrained}

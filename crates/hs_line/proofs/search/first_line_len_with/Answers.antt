@@ -1,4 +1,4 @@
-use Rattle.std.proofs.Common.{◌≡◌, ℕ, ◌+◌, ◌++◌, Option, Some, None, subst}
+use Rattle.std.proofs.Common.{ℕ, ◌+◌, ◌++◌, Option, Some, subst}
 use Rattle.hs_line.specs.Lines.{IsLine}
 use Rattle.hs_line.specs.Held.{FirstLine}
 use Rattle.hs_line.proofs.FirstLines.{FirstLine-stays, FirstLine-none, FirstLine-new}

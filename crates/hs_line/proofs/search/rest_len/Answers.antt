@@ -1,4 +1,4 @@
-use Rattle.std.proofs.Common.{◌≡◌, ℕ, Option, Some, None, sym, subst}
+use Rattle.std.proofs.Common.{ℕ, Option, sym, subst}
 use Rattle.memchr.specs.Find.{IsLastByte, is_byte}
 use Rattle.hs_line.proofs.FirstLines.{rest_of-found, rest_of-found_none}
 use Rattle.hs_line.proofs.search.rest_len.Goals as goal

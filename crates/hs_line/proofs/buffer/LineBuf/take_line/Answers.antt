@@ -1,4 +1,4 @@
-use Rattle.std.proofs.Common.{◌≡◌, ℕ, List, Option, Some, drop, ap, sym, subst, ◌∙◌}
+use Rattle.std.proofs.Common.{ℕ, List, Option, Some, drop, ap, sym, subst, ◌∙◌}
 use Rattle.hs_line.specs.Held.{FirstLine}
 use Rattle.hs_line.specs.Lines.{lines_of}
 use Rattle.hs_line.proofs.LinesLemmas.{lines_of-none}
