@@ -16,7 +16,7 @@ abbrev pub onto_first : ℕ → List (List ℕ) → List (List ℕ)
 onto_first b [] = []
 onto_first b (line ∷ lines) = (b ∷ line) ∷ lines
 
--- the bytes before each LF: an LF ends a line, and any other byte belongs to the line that ends next
+-- the bytes before each LF: an LF ends a line, and another byte is of the line that ends next
 abbrev pub lines_of : List ℕ → List (List ℕ)
 lines_of [] = []
 lines_of (b ∷ bytes) = if b == 10 then [] ∷ lines_of bytes else onto_first b (lines_of bytes)
@@ -30,9 +30,11 @@ rest_of (b ∷ bytes) = if has_lf (b ∷ bytes) then rest_of bytes else b ∷ by
 abbrev pub whole_lines : List ℕ → List (List ℕ)
 whole_lines bytes = take_while (λ line. nat_le (length line) MAX_LINE_LEN) (lines_of bytes)
 
--- whether the first line is longer than a line may be, ended or not: one byte more than that is there without an LF
+-- whether the first line is longer than a line may be, ended or not: so many bytes and one more are
+-- there without an LF
 abbrev pub is_too_long : List ℕ → Bool
-is_too_long bytes = nat_lt MAX_LINE_LEN (length bytes) && not (has_lf (take (MAX_LINE_LEN + 1) bytes))
+is_too_long bytes =
+    nat_lt MAX_LINE_LEN (length bytes) && not (has_lf (take (MAX_LINE_LEN + 1) bytes))
 
 -- lines, each with its LF, and bytes after them
 abbrev pub joined : List (List ℕ) → List ℕ → List ℕ

@@ -9,14 +9,15 @@ use bytes::Bytes;
 use std::alloc::{AllocError, Global};
 use std::marker::Model;
 
-// With this much more than is ever held, held bytes are moved to the front only once more than half as many were
-// taken since the last move, so that a stream costs time in proportion to its bytes however it is pushed and taken.
+// With this much more than is ever held, held bytes are moved to the front only once more than half
+// as many were taken since the last move. So a stream costs time in proportion to its bytes, however
+// it is pushed and taken.
 const RESERVED: usize = BUFFER_SIZE + MAX_LINE_LEN;
 
 /// Bytes of a stream that were received and not taken yet, at most `BUFFER_SIZE` of them.
 ///
-/// All its memory is taken by `new`. Each byte is looked at once in the search for an LF, and copied out once when
-/// its line is taken.
+/// All its memory is taken by `new`. Each byte is looked at once in the search for an LF, and copied
+/// out once when its line is taken.
 #[derive(Drop)]
 pub struct LineBuf {
     bytes: Vec<u8>,
@@ -35,9 +36,12 @@ impl Model for LineBuf {
 
     ghost view = { λ b. drop b.taken b.bytes.items };
 
-    // The room stays reserved, no more is taken than came and no more held than may be, and the first line is known.
-    ghost invariant = { λ b. (BUFFER_SIZE ≤ vec_capacity b.bytes) × (b.taken ≤ vec_len b.bytes)
-        × (vec_len b.bytes ≤ b.taken + BUFFER_SIZE) × FirstLine (drop b.taken b.bytes.items) b.line_len };
+    // The room stays reserved, no more was taken than came and no more is held than may be, and the
+    // first line is known.
+    ghost invariant = { λ b. (BUFFER_SIZE ≤ vec_capacity b.bytes)
+        × (b.taken ≤ vec_len b.bytes)
+        × (vec_len b.bytes ≤ b.taken + BUFFER_SIZE)
+        × FirstLine (drop b.taken b.bytes.items) b.line_len };
 }
 
 impl LineBuf {
@@ -76,10 +80,12 @@ impl LineBuf {
     /// Takes the first line, without its LF.
     pub fn take_line(&mut self) -> Result<Option<Bytes>, AllocError>
         // The line and its LF are gone, and nothing else.
-        ensures line { IfOk result (λ taken. IfSome taken (λ line. self.old ≡ line ++ 10 ∷ self.new)) }
-        ensures first { IfOk result (λ taken. IfSome taken (λ line. lines_of self.old ≡ line ∷ lines_of self.new)) }
+        ensures line { IfOk result (λ taken. IfSome taken (λ line.
+            self.old ≡ line ++ 10 ∷ self.new)) }
+        ensures first { IfOk result (λ taken. IfSome taken (λ line.
+            lines_of self.old ≡ line ∷ lines_of self.new)) }
 
-        // Without a line nothing changes.
+        // None comes exactly where no LF is held, and then nothing changes, nor does it without memory.
         ensures none { IfOk result (λ taken. IfNone taken (lines_of self.old ≡ [])) }
         ensures none_kept { IfOk result (λ taken. IfNone taken (self.new ≡ self.old)) }
         ensures err { OnErr result (self.new ≡ self.old) }

@@ -11,14 +11,18 @@ pub fn lines_and_the_rest()
     ensures rest { (bytes : List ℕ) → IsLine (rest_of bytes) }
     ensures lines_found { (lines : List (List ℕ)) (rest : List ℕ) →
         AllByRecursion IsLine lines → IsLine rest → lines_of (joined lines rest) ≡ lines }
-    ensures rest_found { (lines : List (List ℕ)) (rest : List ℕ) → IsLine rest → rest_of (joined lines rest) ≡ rest }
+    ensures rest_found { (lines : List (List ℕ)) (rest : List ℕ) →
+        IsLine rest → rest_of (joined lines rest) ≡ rest }
 {}
 
 /// Bytes that come later change no line that is there, and the rest is all that they are read with.
 pub fn lines_as_they_come()
-    ensures lines { (bytes more : List ℕ) → lines_of (bytes ++ more) ≡ lines_of bytes ++ lines_of (rest_of bytes ++ more) }
-    ensures rest { (bytes more : List ℕ) → rest_of (bytes ++ more) ≡ rest_of (rest_of bytes ++ more) }
-    ensures first { (line more : List ℕ) → IsLine line → lines_of (line ++ 10 ∷ more) ≡ line ∷ lines_of more }
+    ensures lines { (bytes more : List ℕ) →
+        lines_of (bytes ++ more) ≡ lines_of bytes ++ lines_of (rest_of bytes ++ more) }
+    ensures rest { (bytes more : List ℕ) →
+        rest_of (bytes ++ more) ≡ rest_of (rest_of bytes ++ more) }
+    ensures first { (line more : List ℕ) → IsLine line →
+        lines_of (line ++ 10 ∷ more) ≡ line ∷ lines_of more }
     ensures none { (bytes : List ℕ) → IsLine bytes ↔ (lines_of bytes ≡ []) }
 {}
 

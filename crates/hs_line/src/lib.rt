@@ -3,11 +3,11 @@
 //!     P 1 test t PRIMARY id,n LF 1 = 1 1 LF 1 + 2
 //!     |--- first line ---|       |-line-|   |rest|          LF is the byte 0x0A
 //!
-//! An LF ends a line, and nothing else does: no CR, no end of a piece. `LineBuf` holds up to 131,072 bytes that
-//! were received and not taken yet. `push` appends a piece, which is to fit the `room`, and takes no memory.
-//! `take_line` hands out the first line. `has_line` and `rest_len` look at what is held, and `is_too_long` says that
-//! the first line is longer than 65,536 bytes, whether or not its LF has come. `cut_pieces` pushes a whole list
-//! of pieces, and says what the single calls come to.
+//! An LF ends a line, and nothing else does: no CR, no end of a piece. `LineBuf` holds up to
+//! 131,072 bytes that were received and not taken yet. `push` appends a piece that fits the `room`
+//! and takes no memory, and `take_line` hands out the first line. `has_line` and `rest_len` look at
+//! what is held, and `is_too_long` says that the first line is longer than 65,536 bytes, whether or
+//! not its LF has come. `cut_pieces` pushes a list of pieces, and says what single calls come to.
 //!
 //! What a line means is left to the crates above.
 #![tactic(auto)]

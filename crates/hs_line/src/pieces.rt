@@ -42,17 +42,20 @@ fn take_lines(held: &mut LineBuf, lines: &mut Vec<Bytes>, asked: usize) -> Resul
     Ok(())
 }
 
-/// Pushes the pieces in their order, each whole, up to the first that does not fit what is still held, and takes
-/// lines after each as it asks.
+/// Pushes the pieces in their order, each whole, up to the first that does not fit what is still
+/// held, and takes lines after each as it asks.
 pub fn cut_pieces(alloc: Global, pieces: &[Piece]) -> Result<Cut, AllocError>
     // However the stream was cut and taken, the lines and the rest are those of the whole stream.
     ensures lines { IfOk result (λ cut. cut.lines.items ++ lines_of cut.held
         ≡ lines_of (stream_of (take cut.pushed pieces.now))) }
-    ensures rest { IfOk result (λ cut. rest_of cut.held ≡ rest_of (stream_of (take cut.pushed pieces.now))) }
+    ensures rest { IfOk result (λ cut. rest_of cut.held
+        ≡ rest_of (stream_of (take cut.pushed pieces.now))) }
 
     // No more lines than were asked for, and all of them where each piece asks for enough.
-    ensures asked { IfOk result (λ cut. vec_len cut.lines ≤ most_taken (take cut.pushed pieces.now)) }
-    ensures drained { IfOk result (λ cut. AllByRecursion IsDrained pieces.now → lines_of cut.held ≡ []) }
+    ensures asked { IfOk result (λ cut. vec_len cut.lines
+        ≤ most_taken (take cut.pushed pieces.now)) }
+    ensures drained { IfOk result (λ cut. AllByRecursion IsDrained pieces.now →
+        lines_of cut.held ≡ []) }
 
     // Only a piece that does not fit ends it early.
     ensures pushed { IfOk result (λ cut. cut.pushed ≤ length pieces.now) }

@@ -12,10 +12,12 @@ pub fn first_line_len(bytes: &[u8]) -> Option<usize>
     memchr(b'\n', bytes)
 }
 
-/// The same after a piece was appended to so many bytes. Only the piece is searched, and only where no line was held.
+/// The same after a piece was appended to so many bytes. Only the piece is searched, and only where
+/// no line was held.
 pub fn first_line_len_with(line_len: Option<usize>, held_len: usize, piece: &[u8]) -> Option<usize>
     requires { held_len + length piece.now < 2 ^ 64 }
-    ensures { (held : List ℕ) → length held ≡ held_len → FirstLine held line_len → FirstLine (held ++ piece.now) result }
+    ensures { (held : List ℕ) → length held ≡ held_len → FirstLine held line_len →
+        FirstLine (held ++ piece.now) result }
 {
     if let Some(len) = line_len {
         return Some(len);
