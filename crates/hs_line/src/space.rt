@@ -18,6 +18,7 @@ pub fn restart(bytes: &mut Vec<u8>, taken: usize) -> usize
     requires within { taken ≤ vec_len bytes.old }
     ensures items { drop result bytes.new.items ≡ drop taken bytes.old.items }
     ensures within { result ≤ vec_len bytes.new }
+    ensures front { taken ≡ vec_len bytes.old → result ≡ 0 }
     ensures len { vec_len bytes.new + taken ≡ vec_len bytes.old + result }
     ensures capacity { vec_capacity bytes.new ≡ vec_capacity bytes.old }
 {
