@@ -25,3 +25,4 @@ pub use buffer::LineBuf;
 pub use laws::{lines_and_the_rest, lines_as_they_come, lines_of_examples, whole_lines_one_by_one};
 pub use limits::{BUFFER_SIZE, MAX_LINE_LEN};
 pub use pieces::{Cut, Piece, cut_pieces};
+pub use search::first_line_len;
