@@ -1,0 +1,5 @@
+pub mod Ascending
+pub mod Cuts
+pub mod Edits
+pub mod Found
+mod Numbered

@@ -1,0 +1,1 @@
+//! Trees of keys of one number and of several parts.
