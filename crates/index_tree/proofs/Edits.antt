@@ -1,11 +1,11 @@
 -- What an insert and a removal make of pairs in the order of their keys.
-use Rattle.std.proofs.Common.{◌≡◌, ℕ, Bool, true, false, not, cond, List, [], ◌∷◌, ◌++◌, Some, None, filter, find, count_by, sym, refl, ap, ◌∙◌}
+use Rattle.std.proofs.Common.{◌≡◌, ℕ, zero, suc, Bool, true, false, not, cond, List, [], ◌∷◌, ◌++◌, Some, None, filter, find, count_by, sym, refl, ap, ◌∙◌}
 use Rattle.std.specs.declared.cmp.Ordering.{Ordering}
 use Rattle.std.specs.declared.cmp.Ordering.TheVariants.{Less, Equal, Greater}
 use Rattle.std.specs.Ordering.{is_lt, is_eq, is_gt}
 use Rattle.std.specs.Cmp.{IsTotalOrder}
 use Rattle.std.proofs.lemmas.Cmp.{alike_right}
-use Rattle.std.specs.List.{AllByRecursion, insert}
+use Rattle.std.specs.List.{AllByRecursion, insert, remove}
 use Rattle.std.specs.Option.{option_map}
 use Rattle.std.proofs.lemmas.Bool.{true≢false}
 use Rattle.index_tree.specs.Pairs.{Pairs, is_before, is_at, is_after, IsAscending, slot_of, with_pair, without_key}
@@ -50,6 +50,19 @@ module _ {K : Type 0} (cmp : K → K → Ordering) where
       by_test : IsAscending cmp (filter test xs) → (b : Bool) → IsAscending cmp (cond b (x ∷ filter test xs) (filter test xs))
       by_test rest true = (all_kept (λ (y : K × ℕ). cmp x.0 y.0 ≡ Less) test xs ascending.0, rest)
       by_test rest false = rest
+
+  all_but : (x : K × ℕ) (xs : Pairs K) (k : ℕ) → AllByRecursion (λ y. cmp x.0 y.0 ≡ Less) xs → AllByRecursion (λ y. cmp x.0 y.0 ≡ Less) (remove xs k)
+  all_but x [] zero all = tt
+  all_but x [] (suc k) all = tt
+  all_but x (y ∷ ys) zero all = all.1
+  all_but x (y ∷ ys) (suc k) all = (all.0, all_but x ys k all.1)
+
+  -- and so are those without the one at a place
+  pub ascending_remove : (xs : Pairs K) (k : ℕ) → IsAscending cmp xs → IsAscending cmp (remove xs k)
+  ascending_remove [] zero ascending = tt
+  ascending_remove [] (suc k) ascending = tt
+  ascending_remove (x ∷ xs) zero ascending = ascending.1
+  ascending_remove (x ∷ xs) (suc k) ascending = (all_but x xs k ascending.0, ascending_remove xs k ascending.1)
 
   pub ascending_append : (xs ys : Pairs K) → IsAscending cmp xs → IsAscending cmp ys → AllByRecursion (λ x. AllByRecursion (λ y. cmp x.0 y.0 ≡ Less) ys) xs → IsAscending cmp (xs ++ ys)
   ascending_append [] ys front back across = back

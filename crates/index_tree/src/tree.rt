@@ -1,5 +1,5 @@
 //! A tree of keys beside slots, as a vector of pairs that ascend by their keys.
-ghost use Rattle.std.specs.Prelude.{◌≡◌, ℕ, ◌+◌, ◌<◌, ◌≤◌, [], length, OnOk, OnErr, IsOk, IfNone, is_some, not, count_by, nat_lt, if◌then◌else◌, slice_get};
+ghost use Rattle.std.specs.Prelude.{◌≡◌, ℕ, ◌+◌, ◌<◌, ◌≤◌, [], length, OnOk, OnErr, IsOk, IfSome, IfNone, is_some, remove, not, count_by, nat_lt, if◌then◌else◌, slice_get};
 ghost use Rattle.index_tree.specs.Contents.{IsAt, IsInside, Finds, one_after, one_before};
 ghost use Rattle.index_tree.specs.Edges.{is_from, is_to, first_place, last_place};
 ghost use Rattle.index_tree.specs.Pairs.{IsAscending, is_before, is_at, is_after, slot_of, with_pair, without_key, slots};
@@ -55,8 +55,6 @@ impl<K: TreeKey> Tree<K> {
 
     /// Adds a key that is not there. It takes no memory.
     pub fn insert(&mut self, key: K, slot: u32)
-    where
-        K: Drop,
         requires absent { slot_of K.cmp key self.old.pairs ≡ None }
         requires room { 0 < self.old.spare }
         ensures pairs { self.new.pairs ≡ with_pair K.cmp key slot self.old.pairs }
@@ -69,7 +67,7 @@ impl<K: TreeKey> Tree<K> {
         }
     }
 
-    /// Takes a key out and answers its slot, or None where the key is not there. It gives and takes no memory.
+    /// Takes a key out and answers its slot, or None where the key is not there. It takes no memory.
     pub fn remove(&mut self, key: &K) -> Option<u32>
     where
         K: Drop,
@@ -83,9 +81,20 @@ impl<K: TreeKey> Tree<K> {
         Some(slot)
     }
 
+    /// Takes out the pair at a place and hands it back.
+    pub fn remove_at(&mut self, place: Place) -> (K, u32)
+        requires { IsInside self.old place }
+        ensures pair { (before : ℕ) → IsAt self.old place before → slice_get self.old.pairs before ≡ Some result }
+        ensures pairs { (before : ℕ) → IsAt self.old place before → self.new.pairs ≡ remove self.old.pairs before }
+        ensures spare { self.new.spare ≡ self.old.spare + 1 }
+    {
+        self.pairs.remove(place.number())
+    }
+
     /// The first pair at or after the edge.
     pub fn first_from(&self, edge: &Edge<K>) -> Option<Place>
         ensures first { Finds self.now (first_place (is_from K.cmp edge.now) self.now.pairs) result }
+        ensures inside { IfSome result (IsInside self.now) }
         ensures ascending { IsAscending K.cmp self.now.pairs }
     {
         let _ = &self.pairs;
@@ -95,6 +104,7 @@ impl<K: TreeKey> Tree<K> {
     /// The last pair at or before the edge.
     pub fn last_to(&self, edge: &Edge<K>) -> Option<Place>
         ensures last { Finds self.now (last_place (is_to K.cmp edge.now) self.now.pairs) result }
+        ensures inside { IfSome result (IsInside self.now) }
         ensures ascending { IsAscending K.cmp self.now.pairs }
     {
         let _ = &self.pairs;
@@ -108,7 +118,8 @@ impl<K: TreeKey> Tree<K> {
     /// The pair behind a place.
     pub fn next(&self, place: Place) -> Option<Place>
         requires { IsInside self.now place }
-        ensures { (before : ℕ) → IsAt self.now place before → Finds self.now (one_after (length self.now.pairs) before) result }
+        ensures behind { (before : ℕ) → IsAt self.now place before → Finds self.now (one_after (length self.now.pairs) before) result }
+        ensures inside { IfSome result (IsInside self.now) }
     {
         if place.number() < self.pairs.len() - 1 {
             Some(Place::of(place.number() + 1))
@@ -120,7 +131,8 @@ impl<K: TreeKey> Tree<K> {
     /// The pair in front of a place.
     pub fn prev(&self, place: Place) -> Option<Place>
         requires { IsInside self.now place }
-        ensures { (before : ℕ) → IsAt self.now place before → Finds self.now (one_before before) result }
+        ensures in_front { (before : ℕ) → IsAt self.now place before → Finds self.now (one_before before) result }
+        ensures inside { IfSome result (IsInside self.now) }
     {
         let _ = &self.pairs;
         if place.number() == 0 {
