@@ -1,3 +1,4 @@
 pub mod Contents
 pub mod Edges
+pub mod Examples
 pub mod Pairs

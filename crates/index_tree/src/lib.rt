@@ -11,6 +11,7 @@
 
 mod edge;
 mod key;
+mod laws;
 mod place;
 #[cfg(test)]
 mod tests;
@@ -18,5 +19,6 @@ mod tree;
 
 pub use edge::Edge;
 pub use key::TreeKey;
+pub use laws::worked_examples;
 pub use place::Place;
 pub use tree::Tree;

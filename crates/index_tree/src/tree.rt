@@ -1,4 +1,5 @@
-//! A tree of keys beside slots, as a vector of pairs that ascend by their keys.
+//! A tree of keys beside slots, as a vector of pairs that ascend by their keys. A look-up halves the vector; an insert
+//! and a removal move the pairs behind.
 ghost use Rattle.std.specs.Prelude.{◌≡◌, ℕ, ◌+◌, ◌<◌, ◌≤◌, [], length, OnOk, OnErr, IsOk, IfSome, IfNone, is_some, remove, not, count_by, nat_lt, if◌then◌else◌, slice_get};
 ghost use Rattle.index_tree.specs.Contents.{IsAt, IsInside, Finds, one_after, one_before};
 ghost use Rattle.index_tree.specs.Edges.{is_from, is_to, first_place, last_place};
@@ -97,6 +98,7 @@ impl<K: TreeKey> Tree<K> {
         ensures inside { IfSome result (IsInside self.now) }
         ensures ascending { IsAscending K.cmp self.now.pairs }
     {
+        // A proof knows that the pairs ascend where it has seen them.
         let _ = &self.pairs;
         self.place_of(self.count_below(edge))
     }
