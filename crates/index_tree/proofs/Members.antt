@@ -14,11 +14,12 @@ use Rattle.std.proofs.lemmas.List.Edits.{length-remove}
 use Rattle.std.proofs.lemmas.List.Elements.{filter-append}
 use Rattle.std.proofs.lemmas.List.Folds.{find-append}
 use Rattle.index_tree.specs.Pairs.{Pairs, is_before, is_at, is_after, IsAscending, slot_of, with_pair, without_key}
-use Rattle.index_tree.specs.Edges.{first_place}
+use Rattle.index_tree.specs.declared.edge.Edge.TheVariants.{With}
+use Rattle.index_tree.specs.Edges.{is_from, first_place}
 use Rattle.index_tree.proofs.Ascending.{equal_is, less_back, greater_back, falls, before_is_closed}
 use Rattle.index_tree.proofs.Cuts.{Opposite, cut_at_count, front_is, rest_is, filter_none, filter_all}
-use Rattle.index_tree.proofs.Edits.{absent_from_slot, opposite_when_absent, all_pass, all_weaker, some_is_none}
-use Rattle.index_tree.proofs.Found.{first_within, kept_when_absent, removed_at}
+use Rattle.index_tree.proofs.Edits.{absent_from_slot, opposite_when_absent, all_pass, all_weaker, some_is_none, absent_behind}
+use Rattle.index_tree.proofs.Found.{first_none, first_within, kept_when_absent, removed_at}
 
 module _ {X : Type 0} (p q : X → Bool) where
   -- a filter that lets through all that pass a test leaves what that test finds
@@ -143,6 +144,23 @@ module _ {K : Type 0} (cmp : K → K → Ordering) (order : IsTotalOrder cmp) wh
   -- a removal of a key that is there makes one pair less
   pub length-without_key : (key : K) (xs : Pairs K) → IsAscending cmp xs → (k : ℕ) → first_place (is_at cmp key) xs ≡ Some k → length (without_key cmp key xs) + 1 ≡ length xs
   length-without_key key xs ascending k found = rw (← removed_at cmp key order xs ascending k found) (length-remove xs k (first_within (is_at cmp key) xs k found))
+
+-- a key that is there is the first at or after it
+module _ {K : Type 0} (cmp : K → K → Ordering) (order : IsTotalOrder cmp) (key : K) where
+  pub first_with_is_at : (xs : Pairs K) → IsAscending cmp xs → (k : ℕ) → first_place (is_at cmp key) xs ≡ Some k → first_place (is_from cmp (With key)) xs ≡ Some k
+  first_with_is_at [] ascending k e = e
+  first_with_is_at (x ∷ xs) ascending k e = by_answer (first_with_is_at xs ascending.1) (cmp x.0 key) refl e
+    where
+      later : ((j : ℕ) → first_place (is_at cmp key) xs ≡ Some j → first_place (is_from cmp (With key)) xs ≡ Some j) → (o : Option ℕ) → first_place (is_at cmp key) xs ≡ o → option_map suc o ≡ Some k → option_map suc (first_place (is_from cmp (With key)) xs) ≡ Some k
+      later rest None is e = absurd (some_is_none k (sym e))
+      later rest (Some j) is e = rw (rest j is) e
+
+      by_answer : ((j : ℕ) → first_place (is_at cmp key) xs ≡ Some j → first_place (is_from cmp (With key)) xs ≡ Some j) → (r : Ordering) → cmp x.0 key ≡ r → cond (is_eq r) (Some 0) (option_map suc (first_place (is_at cmp key) xs)) ≡ Some k → cond (not (is_lt r)) (Some 0) (option_map suc (first_place (is_from cmp (With key)) xs)) ≡ Some k
+      by_answer rest Less is e = later rest (first_place (is_at cmp key) xs) refl e
+      by_answer rest Equal is e = e
+      by_answer rest Greater is e =
+          let none = first_none (is_at cmp key) xs (absent_behind cmp order key x xs (ap is_lt is) ascending.0) in
+          absurd (some_is_none k (sym (ap (option_map suc) (sym none) ∙ e)))
 
 -- a filter of what a wider one keeps
 filter_of_kept : {X : Type 0} (p q : X → Bool) → ((x : X) → q x ≡ true → p x ≡ true) → (xs : List X) → filter q (filter p xs) ≡ filter q xs

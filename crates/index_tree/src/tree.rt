@@ -1,5 +1,5 @@
-//! A tree of keys beside slots, as a vector of pairs that ascend by their keys. A look-up halves the vector; an insert
-//! and a removal move the pairs behind.
+//! A tree of keys beside slots, as a vector of pairs that ascend by their keys. A look-up halves the
+//! vector; an insert and a removal move the pairs behind.
 ghost use Rattle.std.specs.Prelude.{◌≡◌, ℕ, ◌+◌, ◌<◌, ◌≤◌, [], length, OnOk, OnErr, IsOk, IfSome, IfNone, is_some, remove, not, count_by, nat_lt, if◌then◌else◌, slice_get};
 ghost use Rattle.index_tree.specs.Contents.{IsAt, IsInside, Finds, one_after, one_before};
 ghost use Rattle.index_tree.specs.Edges.{is_from, is_to, first_place, last_place};
@@ -25,7 +25,13 @@ impl<K: TreeKey> Model for Tree<K> {
 
     ghost coded = { contents_code K.code };
 
-    ghost view = { λ tree. record { pairs = tree.pairs.items; places = range_with_len 0 (length tree.pairs.items); spare = vec_capacity tree.pairs - vec_len tree.pairs } };
+    ghost view = {
+        λ tree. record {
+            pairs = tree.pairs.items;
+            places = range_with_len 0 (length tree.pairs.items);
+            spare = vec_capacity tree.pairs - vec_len tree.pairs
+        }
+    };
 
     ghost invariant = { λ tree. IsAscending K.cmp tree.pairs.items };
 }
@@ -68,7 +74,7 @@ impl<K: TreeKey> Tree<K> {
         }
     }
 
-    /// Takes a key out and answers its slot, or None where the key is not there. It takes no memory.
+    /// Takes a key out and answers its slot. None says that it is not there. It takes no memory.
     pub fn remove(&mut self, key: &K) -> Option<u32>
     where
         K: Drop,
@@ -85,8 +91,10 @@ impl<K: TreeKey> Tree<K> {
     /// Takes out the pair at a place and hands it back.
     pub fn remove_at(&mut self, place: Place) -> (K, u32)
         requires { IsInside self.old place }
-        ensures pair { (before : ℕ) → IsAt self.old place before → slice_get self.old.pairs before ≡ Some result }
-        ensures pairs { (before : ℕ) → IsAt self.old place before → self.new.pairs ≡ remove self.old.pairs before }
+        ensures pair { (before : ℕ) → IsAt self.old place before →
+            slice_get self.old.pairs before ≡ Some result }
+        ensures pairs { (before : ℕ) → IsAt self.old place before →
+            self.new.pairs ≡ remove self.old.pairs before }
         ensures spare { self.new.spare ≡ self.old.spare + 1 }
     {
         self.pairs.remove(place.number())
@@ -120,7 +128,8 @@ impl<K: TreeKey> Tree<K> {
     /// The pair behind a place.
     pub fn next(&self, place: Place) -> Option<Place>
         requires { IsInside self.now place }
-        ensures behind { (before : ℕ) → IsAt self.now place before → Finds self.now (one_after (length self.now.pairs) before) result }
+        ensures behind { (before : ℕ) → IsAt self.now place before →
+            Finds self.now (one_after (length self.now.pairs) before) result }
         ensures inside { IfSome result (IsInside self.now) }
     {
         if place.number() < self.pairs.len() - 1 {
@@ -133,7 +142,8 @@ impl<K: TreeKey> Tree<K> {
     /// The pair in front of a place.
     pub fn prev(&self, place: Place) -> Option<Place>
         requires { IsInside self.now place }
-        ensures in_front { (before : ℕ) → IsAt self.now place before → Finds self.now (one_before before) result }
+        ensures in_front { (before : ℕ) → IsAt self.now place before →
+            Finds self.now (one_before before) result }
         ensures inside { IfSome result (IsInside self.now) }
     {
         let _ = &self.pairs;
@@ -147,7 +157,8 @@ impl<K: TreeKey> Tree<K> {
     /// The slot of the pair at a place.
     pub fn slot_at(&self, place: Place) -> u32
         requires { IsInside self.now place }
-        ensures { (before : ℕ) → IsAt self.now place before → slice_get (slots self.now.pairs) before ≡ Some result }
+        ensures { (before : ℕ) → IsAt self.now place before →
+            slice_get (slots self.now.pairs) before ≡ Some result }
     {
         self.pairs[place.number()].1
     }
