@@ -25,13 +25,11 @@ impl<K: TreeKey> Model for Tree<K> {
 
     ghost coded = { contents_code K.code };
 
-    ghost view = {
-        λ tree. record {
-            pairs = tree.pairs.items;
-            places = range_with_len 0 (length tree.pairs.items);
-            spare = vec_capacity tree.pairs - vec_len tree.pairs
-        }
-    };
+    ghost view = { λ tree. record {
+      pairs = tree.pairs.items;
+      places = range_with_len 0 (length tree.pairs.items);
+      spare = vec_capacity tree.pairs - vec_len tree.pairs;
+    } };
 
     ghost invariant = { λ tree. IsAscending K.cmp tree.pairs.items };
 }
