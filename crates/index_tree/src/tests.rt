@@ -56,6 +56,12 @@ fn last<K: TreeKey>(tree: &Tree<K>, edge: &Edge<K>) -> Option<u32> {
     tree.last_to(edge).map(|place| tree.slot_at(place))
 }
 
+// The first slot behind parts that the caller lends, whatever lifetime the tree's own keys have.
+fn behind_lent(tree: &Tree<Parts<'static>>, parts: &[u64]) -> Option<u32> {
+    let tree: &Tree<Parts<'_>> = tree;
+    first(tree, &Edge::Without(Parts(parts)))
+}
+
 // The slots from the first pair on, and from the last back, as far as `steps` go.
 fn walk_up<K: TreeKey>(alloc: Global, tree: &Tree<K>, steps: u32) -> Result<Vec<u32>, AllocError> {
     let mut slots = Vec::new(alloc);
@@ -171,6 +177,8 @@ fn a_key_stands_behind_its_own_beginnings(rt: HostRuntime) -> Result<(), Fail> {
         assert_eq!(rt; first(&tree, &edge), low, "from {edge:?}");
         assert_eq!(rt; last(&tree, &edge), high, "to {edge:?}");
     }
+    let lent = vec![in rt.alloc(); 1, 7, 5]?;
+    assert_eq!(rt; behind_lent(&tree, lent.as_slice()), Some(4));
     Ok(())
 }
 
