@@ -53,6 +53,6 @@ distinct_push same (y ∷ ys) x distinct none =
     let first : list_any (λ z. same z y) (ys ++ x ∷ []) ≡ false = any_push (λ z. same z y) ys x (not_true (list_any (λ z. same z y) ys) d.0) n.0 in
     rw (first, distinct_push same ys x d.1 n.1) refl
   where
-  not_true : (b : Bool) → not b ≡ true → b ≡ false
-  not_true true e = absurd cc
-  not_true false e = refl
+    not_true : (b : Bool) → not b ≡ true → b ≡ false
+    not_true true e = absurd cc
+    not_true false e = refl

@@ -19,7 +19,6 @@ goes_on columns before line = is_word (codes "i") (slice_get line (index_place c
 pub asked : (line : List Token) (columns : List Column) (seen before : List IndexDef) (place : ℕ) (r b : Bool) → seen ≡ before → place ≡ index_place columns seen → r ≡ is_word (codes "i") (slice_get line place) → r ≡ b → goes_on columns before line ≡ b
 asked line columns seen before place r b s p e is = cc
 
-
 pub indexes_end : (room : ℕ) (columns : List Column) (before : List IndexDef) (line : List Token) → length line ≤ index_place columns before → indexes_at room columns before line ≡ Ok before
 unfolding indexes_at
 indexes_end zero columns before line le = rw (le-leb (length line) (index_place columns before) le) refl

@@ -107,13 +107,15 @@ column_ok before line c e =
     let text = bind_ok (text_at line (place + 2)) _ k.0 k.1 in
     let name = column_name_ok before line (place + 1) n.0 n.1 in
     let preset = preset_in_ok k.0 (place + 4) (slice_get line (place + 4)) p.0 p.1 in
-    subst (λ c. IsColumn c × (has_column before c.name ≡ false)) (ok_same _ c p.2)
-      (record {
+    subst (λ c. IsColumn c × (has_column before c.name ≡ false)) (ok_same _ c p.2) (
+      record {
         name = name.0;
         kind = kind_ok text.0 k.0 (known_ok (place + 2) (kind_of text.0) k.0 text.2);
         preset = preset.0;
         held = preset.1;
-      }, name.1)
+      },
+      name.1,
+    )
 
 pub record AreColumns (cs : List Column) : Type 0 where
   pub each : AllByRecursion IsColumn cs
@@ -136,9 +138,9 @@ columns_ok (suc room) before line cs le are e = go (goes_on before line) e (λ c
     let rest = columns_ok room (before ++ c ∷ []) line cs (omega (arith, length-append before (c ∷ []))) (column_pushed before c are (omega arith) (column_ok before line c is)) more in
     let longer : length before ≤ length cs = omega (arith, length-append before (c ∷ []), rest.1) in
     (rest.0, longer)) where
-  go : (b : Bool) → cond b (column_at before line >>= λ c. columns_at room (before ++ c ∷ []) line) (Ok before) ≡ Ok cs → ((c : Column) → column_at before line ≡ Ok c → columns_at room (before ++ c ∷ []) line ≡ Ok cs → AreColumns cs × (length before ≤ length cs)) → AreColumns cs × (length before ≤ length cs)
-  go true e next = let c = bind_ok (column_at before line) _ cs e in next c.0 c.1 c.2
-  go false e next = subst (λ cs. AreColumns cs × (length before ≤ length cs)) (ok_same before cs e) (are, omega arith)
+      go : (b : Bool) → cond b (column_at before line >>= λ c. columns_at room (before ++ c ∷ []) line) (Ok before) ≡ Ok cs → ((c : Column) → column_at before line ≡ Ok c → columns_at room (before ++ c ∷ []) line ≡ Ok cs → AreColumns cs × (length before ≤ length cs)) → AreColumns cs × (length before ≤ length cs)
+      go true e next = let c = bind_ok (column_at before line) _ cs e in next c.0 c.1 c.2
+      go false e next = subst (λ cs. AreColumns cs × (length before ≤ length cs)) (ok_same before cs e) (are, omega arith)
 
 pub columns_of_ok : (line : List Token) (cs : List Column) → columns_of line ≡ Ok cs → AreColumns cs × (1 ≤ length cs)
 unfolding columns_of columns_at

@@ -41,13 +41,15 @@ parts_ok columns kind place parts fine e =
     let b = guard_ok (not (list_all (λ part. nat_lt part (length columns)) parts)) _ _ fine a.1 in
     let c = guard_ok (not (are_distinct nat_eq parts)) _ _ fine b.1 in
     let d = guard_ok (nat_lt 8 (length parts)) _ _ fine c.1 in
-    let is = ok_same parts fine d.1 in
-    (subst (AreParts columns kind) is (record {
-      most = ltb-false 8 (length parts) d.0;
-      within = not_false (list_all (λ part. nat_lt part (length columns)) parts) b.0;
-      once = not_false (are_distinct nat_eq parts) c.0;
-      never_null = a.0;
-    }), is)
+    let is = ok_same parts fine d.1 in (
+      subst (AreParts columns kind) is (record {
+        most = ltb-false 8 (length parts) d.0;
+        within = not_false (list_all (λ part. nat_lt part (length columns)) parts) b.0;
+        once = not_false (are_distinct nat_eq parts) c.0;
+        never_null = a.0;
+      }),
+      is,
+    )
 
 index_name_ok : (before : List IndexDef) (line : List Token) (place : ℕ) (name : List ℕ) → index_name_at before line place ≡ Ok name → (is_name name ≡ true) × (has_index before name ≡ false)
 unfolding index_name_at
@@ -84,8 +86,8 @@ index_ok columns before line i e =
     let name = index_name_ok before line (place + 1) n.0 n.1 in
     let parts = parts_ok columns k.0 (place + 3) (parts_of columns t.0) p.0 p.1 in
     let some : 1 ≤ length (parts_of columns t.0) = omega (arith, names_some [] t.0, length-map (names_from [] t.0) (place_of columns)) in
-    subst (λ i. IsIndex columns i × (has_index before i.name ≡ false)) (ok_same _ i p.2)
-      (record {
+    subst (λ i. IsIndex columns i × (has_index before i.name ≡ false)) (ok_same _ i p.2) (
+      record {
         name = name.0;
         kind = index_kind_ok n.0 line (place + 2) k.0 k.1;
         some_part = subst (λ ps. 1 ≤ length ps) parts.1 some;
@@ -93,7 +95,9 @@ index_ok columns before line i e =
         within = parts.0.within;
         once = parts.0.once;
         never_null = parts.0.never_null;
-      }, name.1)
+      },
+      name.1,
+    )
 
 pub record AreIndexes (columns : List Column) (is : List IndexDef) : Type 0 where
   pub each : AllByRecursion (IsIndex columns) is
@@ -116,10 +120,10 @@ indexes_ok zero columns before line is le are e = go (leb (length line) (index_p
   go false false e = absurd cc
 indexes_ok (suc room) columns before line is le are e = go (leb (length line) (index_place columns before)) (is_word (codes "i") (slice_get line (index_place columns before))) e (λ i read more.
     indexes_ok room columns (before ++ i ∷ []) line is (omega (arith, length-append before (i ∷ []))) (index_pushed columns before i are (omega arith) (index_ok columns before line i read)) more) where
-  go : (a b : Bool) → cond a (Ok before) (cond b (index_at columns before line >>= λ i. indexes_at room columns (before ++ i ∷ []) line) (broken BadKind (index_place columns before))) ≡ Ok is → ((i : IndexDef) → index_at columns before line ≡ Ok i → indexes_at room columns (before ++ i ∷ []) line ≡ Ok is → AreIndexes columns is) → AreIndexes columns is
-  go true b e next = subst (AreIndexes columns) (ok_same before is e) are
-  go false true e next = let i = bind_ok (index_at columns before line) _ is e in next i.0 i.1 i.2
-  go false false e next = absurd cc
+      go : (a b : Bool) → cond a (Ok before) (cond b (index_at columns before line >>= λ i. indexes_at room columns (before ++ i ∷ []) line) (broken BadKind (index_place columns before))) ≡ Ok is → ((i : IndexDef) → index_at columns before line ≡ Ok i → indexes_at room columns (before ++ i ∷ []) line ≡ Ok is → AreIndexes columns is) → AreIndexes columns is
+      go true b e next = subst (AreIndexes columns) (ok_same before is e) are
+      go false true e next = let i = bind_ok (index_at columns before line) _ is e in next i.0 i.1 i.2
+      go false false e next = absurd cc
 
 table_name_ok : (tables : List TableDef) (db : List ℕ) (line : List Token) (name : List ℕ) → table_name_at tables db line ≡ Ok name → (is_name name ≡ true) × (has_table tables db name ≡ false)
 unfolding table_name_at
@@ -153,8 +157,8 @@ table_ok tables line t e =
     let columns = columns_of_ok line c.0 c.1 in
     let indexes = indexes_ok 16 c.0 [] line i.0 (omega arith) (record { each = tt; distinct = refl; most = omega arith }) i.1 in
     let whole = whole_ok _ t (length line) i.2 in
-    subst (λ t. IsTable t × (has_table tables t.db t.name ≡ false) × (length tables < 64)) whole.2
-      (record {
+    subst (λ t. IsTable t × (has_table tables t.db t.name ≡ false) × (length tables < 64)) whole.2 (
+      record {
         db = name_ok line 1 d.0 d.1;
         name = name.0;
         columns = columns.0.each;
@@ -166,7 +170,10 @@ table_ok tables line t e =
         index_names = indexes.distinct;
         primary = whole.0;
         rows = whole.1;
-      }, name.1, room_left tables line s.0 s.1)
+      },
+      name.1,
+      room_left tables line s.0 s.1,
+    )
 
 pub stays_valid : (old new : List TableDef) (line : List Token) (t : TableDef) → IsValid (record { tables = old }) → table_at old line ≡ Ok t → new ≡ old ++ t ∷ [] → IsValid (record { tables = new })
 stays_valid old new line t valid read is =

@@ -49,6 +49,6 @@ people = record {
   name = codes "t";
   columns = people_shape;
   indexes = record { name = codes "PRIMARY"; kind = Primary; parts = 0 ∷ [] }
-    ∷ record { name = codes "by_n"; kind = Plain; parts = 2 ∷ [] }
-    ∷ record { name = codes "by_name"; kind = Unique; parts = 1 ∷ [] } ∷ [];
+      ∷ record { name = codes "by_n"; kind = Plain; parts = 2 ∷ [] }
+      ∷ record { name = codes "by_name"; kind = Unique; parts = 1 ∷ [] } ∷ [];
 }

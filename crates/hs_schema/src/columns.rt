@@ -36,10 +36,7 @@ pub(crate) fn columns_of(alloc: Global, line: &[Token]) -> Result<Vec<Column>, L
     let mut columns = Vec::new(alloc);
     while is_word_at(b"c", line, column_place(&columns)) {
         if columns.len() == MAX_COLUMNS {
-            return Err(LineFault::Broken(
-                SchemaRule::TooMany,
-                column_place(&columns),
-            ));
+            return Err(LineFault::Broken(SchemaRule::TooMany, column_place(&columns)));
         }
         let column = column_at(alloc, &columns, line)?;
         columns.push(column)?;

@@ -72,9 +72,7 @@ fn table_name_at<'a>(
 fn has_table(tables: &[TableDef], db: &[u8], name: &[u8]) -> bool
     ensures { result ≡ has_table tables.now db.now name.now }
 {
-    tables
-        .iter()
-        .any(|table| db == table.db.as_slice() && name == table.name.as_slice())
+    tables.iter().any(|table| db == table.db.as_slice() && name == table.name.as_slice())
 }
 
 /// The table, where one index is primary and the greatest row has room.

@@ -9,7 +9,8 @@ use std::alloc::Global;
 use std::test::Fail;
 
 /// Three columns and three indexes, with blanks for the tabs of a line.
-const PEOPLE: &[u8] = b"table test t c id int not \x00 c name bytes:32 null \x00 c n int not 0 i PRIMARY primary id i by_n index n i by_name unique name";
+const PEOPLE: &[u8] =
+    b"table test t c id int not \x00 c name bytes:32 null \x00 c n int not 0 i PRIMARY primary id i by_n index n i by_name unique name";
 
 /// Lines with blanks for tabs, the rule that each breaks first, and the number of the token there.
 const REFUSED: [(&[u8], SchemaRule, u32); 40] = [
@@ -34,27 +35,99 @@ const REFUSED: [(&[u8], SchemaRule, u32); 40] = [
     (b"table d t c id bytes:2 not abc", SchemaRule::BadKind, 7),
     (b"table d t c id int not \x00", SchemaRule::NoPrimary, 8),
     (b"table d t c id int not \x00 x", SchemaRule::BadKind, 8),
-    (b"table d t c id int not \x00 c ID int not 0", SchemaRule::DuplicateName, 9),
+    (
+        b"table d t c id int not \x00 c ID int not 0",
+        SchemaRule::DuplicateName,
+        9,
+    ),
     (b"table d t c id int not \x00 i", SchemaRule::BadKind, 9),
-    (b"table d t c id int not \x00 i by-id", SchemaRule::BadName, 9),
-    (b"table d t c id int not \x00 i PRIMARY first", SchemaRule::BadKind, 10),
-    (b"table d t c id int not \x00 i by_id primary id", SchemaRule::BadName, 10),
-    (b"table d t c id int not \x00 i PRIMARY unique id", SchemaRule::BadName, 10),
-    (b"table d t c id int not \x00 i PRIMARY primary", SchemaRule::BadKind, 11),
-    (b"table d t c id int not \x00 i PRIMARY primary \x00", SchemaRule::BadKind, 11),
-    (b"table d t c id int not \x00 i PRIMARY primary ", SchemaRule::BadName, 11),
-    (b"table d t c id int not \x00 i PRIMARY primary ID", SchemaRule::BadName, 11),
-    (b"table d t c id int not \x00 i PRIMARY primary id,id", SchemaRule::DuplicateName, 11),
-    (b"table d t c id int null \x00 i PRIMARY primary id", SchemaRule::BadKind, 11),
+    (
+        b"table d t c id int not \x00 i by-id",
+        SchemaRule::BadName,
+        9,
+    ),
+    (
+        b"table d t c id int not \x00 i PRIMARY first",
+        SchemaRule::BadKind,
+        10,
+    ),
+    (
+        b"table d t c id int not \x00 i by_id primary id",
+        SchemaRule::BadName,
+        10,
+    ),
+    (
+        b"table d t c id int not \x00 i PRIMARY unique id",
+        SchemaRule::BadName,
+        10,
+    ),
+    (
+        b"table d t c id int not \x00 i PRIMARY primary",
+        SchemaRule::BadKind,
+        11,
+    ),
+    (
+        b"table d t c id int not \x00 i PRIMARY primary \x00",
+        SchemaRule::BadKind,
+        11,
+    ),
+    (
+        b"table d t c id int not \x00 i PRIMARY primary ",
+        SchemaRule::BadName,
+        11,
+    ),
+    (
+        b"table d t c id int not \x00 i PRIMARY primary ID",
+        SchemaRule::BadName,
+        11,
+    ),
+    (
+        b"table d t c id int not \x00 i PRIMARY primary id,id",
+        SchemaRule::DuplicateName,
+        11,
+    ),
+    (
+        b"table d t c id int null \x00 i PRIMARY primary id",
+        SchemaRule::BadKind,
+        11,
+    ),
     // Two rules at one token: a column that may hold NULL before an unknown one, and that before a column listed twice.
-    (b"table d t c id int null \x00 i PRIMARY primary x,id", SchemaRule::BadKind, 11),
-    (b"table d t c id int not \x00 i PRIMARY primary id,id,x", SchemaRule::BadName, 11),
-    (b"table d t c id int not \x00 i by_id unique id", SchemaRule::NoPrimary, 12),
-    (b"table d t c id int not \x00 i PRIMARY primary id c n int not 0", SchemaRule::BadKind, 12),
-    (b"table d t c id int not \x00 i PRIMARY primary id i PRIMARY index id", SchemaRule::DuplicateName, 13),
+    (
+        b"table d t c id int null \x00 i PRIMARY primary x,id",
+        SchemaRule::BadKind,
+        11,
+    ),
+    (
+        b"table d t c id int not \x00 i PRIMARY primary id,id,x",
+        SchemaRule::BadName,
+        11,
+    ),
+    (
+        b"table d t c id int not \x00 i by_id unique id",
+        SchemaRule::NoPrimary,
+        12,
+    ),
+    (
+        b"table d t c id int not \x00 i PRIMARY primary id c n int not 0",
+        SchemaRule::BadKind,
+        12,
+    ),
+    (
+        b"table d t c id int not \x00 i PRIMARY primary id i PRIMARY index id",
+        SchemaRule::DuplicateName,
+        13,
+    ),
     // Rows of 64 + 8 + 16309 + 4 bytes; without a primary index that is told first.
-    (b"table d t c id int not \x00 c a bytes:16309 null \x00 i PRIMARY primary id", SchemaRule::TooMany, 17),
-    (b"table d t c id int not \x00 c a bytes:16309 null \x00 i by_id unique id", SchemaRule::NoPrimary, 17),
+    (
+        b"table d t c id int not \x00 c a bytes:16309 null \x00 i PRIMARY primary id",
+        SchemaRule::TooMany,
+        17,
+    ),
+    (
+        b"table d t c id int not \x00 c a bytes:16309 null \x00 i by_id unique id",
+        SchemaRule::NoPrimary,
+        17,
+    ),
 ];
 
 /// The tokens of a line that is written with blanks for tabs.
@@ -104,8 +177,22 @@ fn a_table_stands_once_in_its_database(rt: HostRuntime) -> Result<(), Fail> {
     assert!(rt; answer(alloc, &mut schema, PEOPLE)?.is_none());
     assert!(rt; answer(alloc, &mut schema, PEOPLE)? == Some((SchemaRule::DuplicateName, 1, 2)));
     assert!(rt; answer(alloc, &mut schema, other)? == Some((SchemaRule::BadName, 1, 11)));
-    assert!(rt; answer(alloc, &mut schema, b"table test T c k int not 0 i PRIMARY primary k")?.is_none());
-    assert!(rt; answer(alloc, &mut schema, b"table TEST t c k int not 0 i PRIMARY primary k")?.is_none());
+    assert!(rt;
+        answer(
+            alloc,
+            &mut schema,
+            b"table test T c k int not 0 i PRIMARY primary k"
+        )?
+        .is_none()
+    );
+    assert!(rt;
+        answer(
+            alloc,
+            &mut schema,
+            b"table TEST t c k int not 0 i PRIMARY primary k"
+        )?
+        .is_none()
+    );
     Ok(())
 }
 
@@ -141,7 +228,8 @@ fn a_limit_is_met_and_not_passed(rt: HostRuntime) -> Result<(), Fail> {
         assert!(rt; told == refused, "{columns} {parts} {more}: {told:?}");
     }
     let mut schema = empty(alloc);
-    let row = b"table d t c id int not \x00 c a bytes:16308 null \x00 i PRIMARY primary id".as_slice();
+    let row =
+        b"table d t c id int not \x00 c a bytes:16308 null \x00 i PRIMARY primary id".as_slice();
     let text = b"table d u c a bytes:16316 not \x00 i PRIMARY primary a".as_slice();
     assert!(rt; answer(alloc, &mut schema, row)?.is_none());
     assert!(rt; answer(alloc, &mut schema, text)?.is_none());
@@ -180,7 +268,8 @@ fn again(alloc: Global, text: &[u8]) -> Result<Vec<u8>, Fail> {
 #[test]
 fn a_text_is_read_again(rt: HostRuntime) -> Result<(), Fail> {
     let alloc = rt.alloc();
-    let people = b"table\ttest\tt\tc\tid\tint\tnot\t\x00\tc\tname\tbytes:32\tnull\t\x00\tc\tn\tint\tnot\t0\ti\tPRIMARY\tprimary\tid\ti\tby_n\tindex\tn\ti\tby_name\tunique\tname\n".as_slice();
+    let people =
+        b"table\ttest\tt\tc\tid\tint\tnot\t\x00\tc\tname\tbytes:32\tnull\t\x00\tc\tn\tint\tnot\t0\ti\tPRIMARY\tprimary\tid\ti\tby_n\tindex\tn\ti\tby_name\tunique\tname\n".as_slice();
     assert_eq!(rt; people.len(), 123);
     let mut schema = empty(alloc);
     assert!(rt; schema.spell(alloc)?.is_empty());
@@ -193,8 +282,10 @@ fn a_text_is_read_again(rt: HostRuntime) -> Result<(), Fail> {
 #[test]
 fn a_preset_is_spelled_in_its_printed_form(rt: HostRuntime) -> Result<(), Fail> {
     let alloc = rt.alloc();
-    let given = b"table\td\tt\tc\tk\tint\tnot\t+007\tc\ta\tbytes:3\tnot\t\x01\x49b\tc\te\tbytes:1\tnot\t\tc\tm\tint\tnull\t-9223372036854775808\ti\tPRIMARY\tprimary\ta,k\n".as_slice();
-    let printed = b"table\td\tt\tc\tk\tint\tnot\t7\tc\ta\tbytes:3\tnot\t\x01\x49b\tc\te\tbytes:1\tnot\t\tc\tm\tint\tnull\t-9223372036854775808\ti\tPRIMARY\tprimary\ta,k\n".as_slice();
+    let given =
+        b"table\td\tt\tc\tk\tint\tnot\t+007\tc\ta\tbytes:3\tnot\t\x01\x49b\tc\te\tbytes:1\tnot\t\tc\tm\tint\tnull\t-9223372036854775808\ti\tPRIMARY\tprimary\ta,k\n".as_slice();
+    let printed =
+        b"table\td\tt\tc\tk\tint\tnot\t7\tc\ta\tbytes:3\tnot\t\x01\x49b\tc\te\tbytes:1\tnot\t\tc\tm\tint\tnull\t-9223372036854775808\ti\tPRIMARY\tprimary\ta,k\n".as_slice();
     assert_eq!(rt; again(alloc, given)?.as_slice(), printed);
     Ok(())
 }
