@@ -5,3 +5,6 @@ pub mod Cases
 pub mod ReadFacts
 pub mod TableFacts
 pub mod Joined
+pub mod ColumnAgain
+pub mod IndexAgain
+pub mod SchemaAgain

@@ -1,11 +1,19 @@
-//! Table lines written out, and what they say.
-ghost use Rattle.std.specs.Prelude.{◌≡◌, List, [], ◌∷◌, ◌++◌, Ok, codes};
+//! A schema's text is read again; and table lines written out, with what they say.
+ghost use Rattle.std.specs.Prelude.{◌≡◌, List, [], ◌∷◌, ◌++◌, Some, Ok, codes};
 ghost use Rattle.hs_token.specs.declared.tokens.Token.{Token};
-ghost use Rattle.row_types.specs.Valid.{IsTable};
+ghost use Rattle.hs_line.specs.Lines.{lines_of};
+ghost use Rattle.row_types.specs.declared.tables.Schema.{Schema};
+ghost use Rattle.row_types.specs.Valid.{IsTable, IsValid};
 ghost use Rattle.hs_schema.specs.declared.faults.SchemaRule.TheVariants.{BadKind, DuplicateName, NoPrimary};
 ghost use Rattle.hs_schema.specs.Reading.{broken, table_at};
-ghost use Rattle.hs_schema.specs.Spelling.{table_tokens};
+ghost use Rattle.hs_schema.specs.Adding.{with_lines};
+ghost use Rattle.hs_schema.specs.Spelling.{table_tokens, spelled};
 ghost use Rattle.hs_schema.specs.Examples.{word, people_start, people_columns, people_indexes, people_line, people};
+
+/// The lines of a valid schema's text, added one after another to no table, give its tables.
+pub fn texts_are_read_again()
+    ensures { (schema : Schema) → IsValid schema → with_lines [] (lines_of (spelled schema)) ≡ Some schema.tables }
+{}
 
 /// A line, the table that it says, and the line of that table.
 pub fn example_table()

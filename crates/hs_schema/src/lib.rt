@@ -21,5 +21,5 @@ mod tests;
 mod tokens;
 
 pub use faults::{SchemaFault, SchemaRule};
-pub use laws::{example_breaches, example_table};
+pub use laws::{example_breaches, example_table, texts_are_read_again};
 pub use schemas::{SchemaLines, empty};
