@@ -117,32 +117,33 @@ column_ok before line c e =
       name.1,
     )
 
-pub record AreColumns (cs : List Column) : Type 0 where
+-- columns, of which there may be more
+pub record ColumnsSoFar (cs : List Column) : Type 0 where
   pub each : AllByRecursion IsColumn cs
   pub distinct : are_distinct same_column cs ≡ true
   pub most : length cs ≤ 64
 
-column_pushed : (before : List Column) (c : Column) → AreColumns before → length before < 64 → IsColumn c × (has_column before c.name ≡ false) → AreColumns (before ++ c ∷ [])
+column_pushed : (before : List Column) (c : Column) → ColumnsSoFar before → length before < 64 → IsColumn c × (has_column before c.name ≡ false) → ColumnsSoFar (before ++ c ∷ [])
 column_pushed before c are lt is = record {
   each = all_push IsColumn before c are.each is.0;
   distinct = distinct_push same_column before c are.distinct is.1;
   most = omega (arith, length-append before (c ∷ []));
 }
 
-columns_ok : (room : ℕ) (before : List Column) (line : List Token) (cs : List Column) → length before + room ≤ 64 → AreColumns before → columns_at room before line ≡ Ok cs → AreColumns cs × (length before ≤ length cs)
+columns_ok : (room : ℕ) (before : List Column) (line : List Token) (cs : List Column) → length before + room ≤ 64 → ColumnsSoFar before → columns_at room before line ≡ Ok cs → ColumnsSoFar cs × (length before ≤ length cs)
 unfolding columns_at
 columns_ok zero before line cs le are e =
     let g = guard_ok (goes_on before line) _ (Ok before) cs e in
-    subst (λ cs. AreColumns cs × (length before ≤ length cs)) (ok_same before cs g.1) (are, omega arith)
+    subst (λ cs. ColumnsSoFar cs × (length before ≤ length cs)) (ok_same before cs g.1) (are, omega arith)
 columns_ok (suc room) before line cs le are e = go (goes_on before line) e (λ c is more.
     let rest = columns_ok room (before ++ c ∷ []) line cs (omega (arith, length-append before (c ∷ []))) (column_pushed before c are (omega arith) (column_ok before line c is)) more in
     let longer : length before ≤ length cs = omega (arith, length-append before (c ∷ []), rest.1) in
     (rest.0, longer)) where
-      go : (b : Bool) → cond b (column_at before line >>= λ c. columns_at room (before ++ c ∷ []) line) (Ok before) ≡ Ok cs → ((c : Column) → column_at before line ≡ Ok c → columns_at room (before ++ c ∷ []) line ≡ Ok cs → AreColumns cs × (length before ≤ length cs)) → AreColumns cs × (length before ≤ length cs)
+      go : (b : Bool) → cond b (column_at before line >>= λ c. columns_at room (before ++ c ∷ []) line) (Ok before) ≡ Ok cs → ((c : Column) → column_at before line ≡ Ok c → columns_at room (before ++ c ∷ []) line ≡ Ok cs → ColumnsSoFar cs × (length before ≤ length cs)) → ColumnsSoFar cs × (length before ≤ length cs)
       go true e next = let c = bind_ok (column_at before line) _ cs e in next c.0 c.1 c.2
-      go false e next = subst (λ cs. AreColumns cs × (length before ≤ length cs)) (ok_same before cs e) (are, omega arith)
+      go false e next = subst (λ cs. ColumnsSoFar cs × (length before ≤ length cs)) (ok_same before cs e) (are, omega arith)
 
-pub columns_of_ok : (line : List Token) (cs : List Column) → columns_of line ≡ Ok cs → AreColumns cs × (1 ≤ length cs)
+pub columns_of_ok : (line : List Token) (cs : List Column) → columns_of line ≡ Ok cs → ColumnsSoFar cs × (1 ≤ length cs)
 unfolding columns_of columns_at
 columns_of_ok line cs e =
     let g = need_ok (goes_on [] line) _ (columns_at 64 [] line) cs e in

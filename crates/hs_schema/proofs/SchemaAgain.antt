@@ -33,11 +33,11 @@ unfolding columns_of
 columns_read t is =
     let line = table_tokens t in
     let rest = flat_map (index_tokens t.columns) t.indexes in
-    let first : is_word (codes "c") (slice_get line 3) ≡ true = first_column t.columns rest is.some_column in
-    rw first (columns_again 64 [] t.columns line rest refl (no_column t.columns t.indexes) is.most_columns is.columns is.column_names) where
-  first_column : (cs : List Column) (rest : List Token) → 1 ≤ length cs → is_word (codes "c") (slice_get (flat_map column_tokens cs ++ rest) 0) ≡ true
-  first_column [] rest some = absurd (omega arith)
-  first_column (c ∷ cs) rest some = refl
+    let first : is_word (codes "c") (slice_get line 3) ≡ true = first_column t.columns rest is.columns.some in
+    rw first (columns_again 64 [] t.columns line rest refl (no_column t.columns t.indexes) is.columns.most is.columns.each is.columns.names) where
+      first_column : (cs : List Column) (rest : List Token) → 1 ≤ length cs → is_word (codes "c") (slice_get (flat_map column_tokens cs ++ rest) 0) ≡ true
+      first_column [] rest some = absurd (omega arith)
+      first_column (c ∷ cs) rest some = refl
 
 drop_columns : (cs : List Column) (rest : List Token) → drop (5 * length cs) (flat_map column_tokens cs ++ rest) ≡ rest
 drop_columns [] rest = refl
@@ -50,13 +50,13 @@ indexes_read t is =
     let rest = flat_map (index_tokens t.columns) t.indexes in
     let three : index_place t.columns [] ≡ suc (suc (suc (5 * length t.columns))) = omega arith in
     let behind : drop (index_place t.columns []) (table_tokens t) ≡ rest = rw three (drop_columns t.columns rest) in
-    indexes_again 16 t.columns [] t.indexes (table_tokens t) behind is.most_indexes is.columns is.column_names is.indexes is.index_names
+    indexes_again 16 t.columns [] t.indexes (table_tokens t) behind is.indexes.most is.columns.each is.columns.names is.indexes.each is.indexes.names
 
 pub table_again : (before : List TableDef) (t : TableDef) → IsTable t → length before < 64 → has_table before t.db t.name ≡ false → table_at before (table_tokens t) ≡ Ok t
 unfolding table_at table_name_at name_at
 table_again before t is room new =
-    let rows : ltb 16384 (most_row_size t.columns) ≡ false = le-ltb 16384 (most_row_size t.columns) is.rows in
-    rw (lt-leb 64 (length before) room, is.db, is.name, new, columns_read t is, indexes_read t is, is.primary, rows) refl
+    let rows : ltb 16384 (most_row_size t.columns) ≡ false = le-ltb 16384 (most_row_size t.columns) is.columns.rows in
+    rw (lt-leb 64 (length before) room, is.db, is.name, new, columns_read t is, indexes_read t is, is.indexes.primary, rows) refl
 
 is_line : (bytes : List ℕ) → AllByRecursion (λ b. b ≢ 10) bytes → IsLine bytes
 is_line [] none = refl
@@ -80,4 +80,4 @@ tables_again before (t ∷ ts) each le names =
     rw (split, read, table) (rest ∙ ap (λ (ts : List TableDef). Some ts) grown)
 
 pub schema_again : (schema : Schema) → IsValid schema → with_lines [] (lines_of (spelled schema)) ≡ Some schema.tables
-schema_again schema valid = tables_again [] schema.tables valid.tables (omega (arith, valid.most_tables)) valid.names
+schema_again schema valid = tables_again [] schema.tables valid.tables (omega (arith, valid.most)) valid.names

@@ -15,7 +15,7 @@ use Rattle.row_types.specs.Valid.{is_name, are_distinct, same_index, same_table,
 use Rattle.hs_schema.specs.declared.faults.SchemaRule.TheVariants.{BadKind, TooMany}
 use Rattle.hs_schema.specs.Reading.{◌>>=◌, Breach, broken, is_word, text_at, name_at, known, names_from, place_of, parts_of, index_kind_of, suits, fine_parts, index_place, has_index, index_name_at, index_kind_at, index_at, indexes_at, columns_of, start_at, has_table, table_name_at, whole_table, table_at}
 use Rattle.hs_schema.proofs.Cases.{bind_ok, guard_ok, need_ok, known_ok, ok_same, all_push, distinct_push}
-use Rattle.hs_schema.proofs.ReadFacts.{name_ok, AreColumns, columns_of_ok}
+use Rattle.hs_schema.proofs.ReadFacts.{name_ok, ColumnsSoFar, columns_of_ok}
 
 not_false : (b : Bool) → not b ≡ false → b ≡ true
 not_false true e = refl
@@ -99,29 +99,30 @@ index_ok columns before line i e =
       name.1,
     )
 
-pub record AreIndexes (columns : List Column) (is : List IndexDef) : Type 0 where
+-- indexes, of which there may be more
+pub record IndexesSoFar (columns : List Column) (is : List IndexDef) : Type 0 where
   pub each : AllByRecursion (IsIndex columns) is
   pub distinct : are_distinct same_index is ≡ true
   pub most : length is ≤ 16
 
-index_pushed : (columns : List Column) (before : List IndexDef) (i : IndexDef) → AreIndexes columns before → length before < 16 → IsIndex columns i × (has_index before i.name ≡ false) → AreIndexes columns (before ++ i ∷ [])
+index_pushed : (columns : List Column) (before : List IndexDef) (i : IndexDef) → IndexesSoFar columns before → length before < 16 → IsIndex columns i × (has_index before i.name ≡ false) → IndexesSoFar columns (before ++ i ∷ [])
 index_pushed columns before i are lt is = record {
   each = all_push (IsIndex columns) before i are.each is.0;
   distinct = distinct_push same_index before i are.distinct is.1;
   most = omega (arith, length-append before (i ∷ []));
 }
 
-pub indexes_ok : (room : ℕ) (columns : List Column) (before : List IndexDef) (line : List Token) (is : List IndexDef) → length before + room ≤ 16 → AreIndexes columns before → indexes_at room columns before line ≡ Ok is → AreIndexes columns is
+pub indexes_ok : (room : ℕ) (columns : List Column) (before : List IndexDef) (line : List Token) (is : List IndexDef) → length before + room ≤ 16 → IndexesSoFar columns before → indexes_at room columns before line ≡ Ok is → IndexesSoFar columns is
 unfolding indexes_at
 indexes_ok zero columns before line is le are e = go (leb (length line) (index_place columns before)) (is_word (codes "i") (slice_get line (index_place columns before))) e where
-  go : (a b : Bool) → cond a (Ok before) (cond b (broken TooMany (index_place columns before)) (broken BadKind (index_place columns before))) ≡ Ok is → AreIndexes columns is
-  go true b e = subst (AreIndexes columns) (ok_same before is e) are
+  go : (a b : Bool) → (cond a (Ok false) (cond b (Ok true) (broken BadKind (index_place columns before))) >>= λ more. cond more (broken TooMany (index_place columns before)) (Ok before)) ≡ Ok is → IndexesSoFar columns is
+  go true b e = subst (IndexesSoFar columns) (ok_same before is e) are
   go false true e = absurd cc
   go false false e = absurd cc
 indexes_ok (suc room) columns before line is le are e = go (leb (length line) (index_place columns before)) (is_word (codes "i") (slice_get line (index_place columns before))) e (λ i read more.
     indexes_ok room columns (before ++ i ∷ []) line is (omega (arith, length-append before (i ∷ []))) (index_pushed columns before i are (omega arith) (index_ok columns before line i read)) more) where
-      go : (a b : Bool) → cond a (Ok before) (cond b (index_at columns before line >>= λ i. indexes_at room columns (before ++ i ∷ []) line) (broken BadKind (index_place columns before))) ≡ Ok is → ((i : IndexDef) → index_at columns before line ≡ Ok i → indexes_at room columns (before ++ i ∷ []) line ≡ Ok is → AreIndexes columns is) → AreIndexes columns is
-      go true b e next = subst (AreIndexes columns) (ok_same before is e) are
+      go : (a b : Bool) → (cond a (Ok false) (cond b (Ok true) (broken BadKind (index_place columns before))) >>= λ more. cond more (index_at columns before line >>= λ i. indexes_at room columns (before ++ i ∷ []) line) (Ok before)) ≡ Ok is → ((i : IndexDef) → index_at columns before line ≡ Ok i → indexes_at room columns (before ++ i ∷ []) line ≡ Ok is → IndexesSoFar columns is) → IndexesSoFar columns is
+      go true b e next = subst (IndexesSoFar columns) (ok_same before is e) are
       go false true e next = let i = bind_ok (index_at columns before line) _ is e in next i.0 i.1 i.2
       go false false e next = absurd cc
 
@@ -145,7 +146,7 @@ whole_ok t whole end e =
     let r = guard_ok (ltb 16384 (most_row_size t.columns)) _ _ whole p.1 in
     (not_false (list_any (λ i. is_primary i.kind) t.indexes) p.0, ltb-false 16384 (most_row_size t.columns) r.0, ok_same t whole r.1)
 
-table_ok : (tables : List TableDef) (line : List Token) (t : TableDef) → table_at tables line ≡ Ok t → IsTable t × (has_table tables t.db t.name ≡ false) × (length tables < 64)
+pub table_ok : (tables : List TableDef) (line : List Token) (t : TableDef) → table_at tables line ≡ Ok t → IsTable t × (has_table tables t.db t.name ≡ false) × (length tables < 64)
 unfolding table_at
 table_ok tables line t e =
     let s = bind_ok (start_at tables line) _ t e in
@@ -161,15 +162,8 @@ table_ok tables line t e =
       record {
         db = name_ok line 1 d.0 d.1;
         name = name.0;
-        columns = columns.0.each;
-        some_column = columns.1;
-        most_columns = columns.0.most;
-        column_names = columns.0.distinct;
-        indexes = indexes.each;
-        most_indexes = indexes.most;
-        index_names = indexes.distinct;
-        primary = whole.0;
-        rows = whole.1;
+        columns = record { each = columns.0.each; some = columns.1; most = columns.0.most; names = columns.0.distinct; rows = whole.1 };
+        indexes = record { each = indexes.each; most = indexes.most; names = indexes.distinct; primary = whole.0 };
       },
       name.1,
       room_left tables line s.0 s.1,
@@ -180,6 +174,6 @@ stays_valid old new line t valid read is =
     let ok = table_ok old line t read in
     subst (λ (ts : List TableDef). IsValid (record { tables = ts })) (sym is) (record {
       tables = all_push IsTable old t valid.tables ok.0;
-      most_tables = omega (arith, ok.2, length-append old (t ∷ []));
+      most = omega (arith, ok.2, length-append old (t ∷ []));
       names = distinct_push same_table old t valid.names ok.1;
     })

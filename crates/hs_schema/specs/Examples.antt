@@ -42,13 +42,13 @@ people_shape =
     ∷ record { name = codes "name"; kind = Bytes 32; null = true; preset = values.Null }
     ∷ record { name = codes "n"; kind = Int; null = false; preset = values.Int (pos 0) } ∷ []
 
+-- The id is the primary key, and names are unique.
+abbrev pub people_keys : List IndexDef
+people_keys =
+    record { name = codes "PRIMARY"; kind = Primary; parts = 0 ∷ [] }
+    ∷ record { name = codes "by_n"; kind = Plain; parts = 2 ∷ [] }
+    ∷ record { name = codes "by_name"; kind = Unique; parts = 1 ∷ [] } ∷ []
+
 -- The table that the line says.
 abbrev pub people : TableDef
-people = record {
-  db = codes "test";
-  name = codes "t";
-  columns = people_shape;
-  indexes = record { name = codes "PRIMARY"; kind = Primary; parts = 0 ∷ [] }
-      ∷ record { name = codes "by_n"; kind = Plain; parts = 2 ∷ [] }
-      ∷ record { name = codes "by_name"; kind = Unique; parts = 1 ∷ [] } ∷ [];
-}
+people = record { db = codes "test"; name = codes "t"; columns = people_shape; indexes = people_keys }

@@ -196,16 +196,21 @@ index_at columns before line = do
   parts ← fine_parts columns kind (index_place columns before + 3) (parts_of columns text)
   Ok (record { name = name; kind = kind; parts = parts })
 
--- The indexes of a line, those before among them, up to its end: one for each `i`, as long as there is room for one more.
+-- Whether one more index follows, where the line doesn't end.
+abbrev pub index_follows : List Token → ℕ → Result Bool Breach
+index_follows line place =
+    if nat_le (length line) place then Ok false
+    else if is_word (codes "i") (slice_get line place) then Ok true
+    else broken BadKind place
+
+-- The indexes of a line up to its end, those before among them, as long as there is room for one more.
 unfoldable pub indexes_at : ℕ → List Column → List IndexDef → List Token → Result (List IndexDef) Breach
-indexes_at zero columns before line =
-    if nat_le (length line) (index_place columns before) then Ok before
-    else if is_word (codes "i") (slice_get line (index_place columns before)) then broken TooMany (index_place columns before)
-    else broken BadKind (index_place columns before)
-indexes_at (suc room) columns before line =
-    if nat_le (length line) (index_place columns before) then Ok before
-    else if is_word (codes "i") (slice_get line (index_place columns before)) then (index_at columns before line >>= λ i. indexes_at room columns (before ++ i ∷ []) line)
-    else broken BadKind (index_place columns before)
+indexes_at zero columns before line = do
+  more ← index_follows line (index_place columns before)
+  if more then broken TooMany (index_place columns before) else Ok before
+indexes_at (suc room) columns before line = do
+  more ← index_follows line (index_place columns before)
+  if more then (index_at columns before line >>= λ i. indexes_at room columns (before ++ i ∷ []) line) else Ok before
 
 -- A line begins with `table`, and there is room for one more table.
 abbrev pub start_at : List TableDef → List Token → Result (Unit {0}) Breach

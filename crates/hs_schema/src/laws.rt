@@ -1,11 +1,12 @@
 //! A schema's text is read again; and table lines written out, with what they say.
-ghost use Rattle.std.specs.Prelude.{◌≡◌, List, [], ◌∷◌, ◌++◌, Some, Ok, codes};
+ghost use Rattle.std.specs.Prelude.{◌≡◌, ◌<◌, false, length, List, [], ◌∷◌, ◌++◌, Some, Ok, codes};
 ghost use Rattle.hs_token.specs.declared.tokens.Token.{Token};
 ghost use Rattle.hs_line.specs.Lines.{lines_of};
 ghost use Rattle.row_types.specs.declared.tables.Schema.{Schema};
+ghost use Rattle.row_types.specs.declared.tables.TableDef.{TableDef};
 ghost use Rattle.row_types.specs.Valid.{IsTable, IsValid};
 ghost use Rattle.hs_schema.specs.declared.faults.SchemaRule.TheVariants.{BadKind, DuplicateName, NoPrimary};
-ghost use Rattle.hs_schema.specs.Reading.{broken, table_at};
+ghost use Rattle.hs_schema.specs.Reading.{broken, has_table, table_at};
 ghost use Rattle.hs_schema.specs.Adding.{with_lines};
 ghost use Rattle.hs_schema.specs.Spelling.{table_tokens, spelled};
 ghost use Rattle.hs_schema.specs.Examples.{word, people_start, people_columns, people_indexes, people_line, people};
@@ -13,6 +14,14 @@ ghost use Rattle.hs_schema.specs.Examples.{word, people_start, people_columns, p
 /// The lines of a valid schema's text, added one after another to no table, give its tables.
 pub fn texts_are_read_again()
     ensures { (schema : Schema) → IsValid schema → with_lines [] (lines_of (spelled schema)) ≡ Some schema.tables }
+{}
+
+/// A line is read only as a valid table, of a name that is new, and each such table is read from its line.
+pub fn lines_say_the_valid_tables()
+    ensures valid { (tables : List TableDef) (line : List Token) (t : TableDef) → table_at tables line ≡ Ok t
+        → IsTable t × (has_table tables t.db t.name ≡ false) × (length tables < 64) }
+    ensures again { (tables : List TableDef) (t : TableDef) → IsTable t → has_table tables t.db t.name ≡ false
+        → length tables < 64 → table_at tables (table_tokens t) ≡ Ok t }
 {}
 
 /// A line, the table that it says, and the line of that table.

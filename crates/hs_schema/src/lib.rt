@@ -21,5 +21,5 @@ mod tests;
 mod tokens;
 
 pub use faults::{SchemaFault, SchemaRule};
-pub use laws::{example_breaches, example_table, texts_are_read_again};
+pub use laws::{example_breaches, example_table, lines_say_the_valid_tables, texts_are_read_again};
 pub use schemas::{SchemaLines, empty};

@@ -58,7 +58,7 @@ impl SchemaLines for Schema {
     fn spell(&self, alloc: Global) -> Result<Vec<u8>, AllocError> {
         let mut out = Vec::new(alloc);
         for table in self.tables.as_slice() {
-            push_table(&mut out, alloc, table)?;
+            push_table(alloc, &mut out, table)?;
         }
         Ok(out)
     }

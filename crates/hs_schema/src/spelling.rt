@@ -12,8 +12,8 @@ use std::alloc::{AllocError, Global};
 
 /// Appends the line of a table, with its LF.
 pub(crate) fn push_table(
-    out: &mut Vec<u8>,
     alloc: Global,
+    out: &mut Vec<u8>,
     table: &TableDef,
 ) -> Result<(), AllocError>
     ensures { OnOk result (out.new.items ≡ out.old.items ++ table_line table.now) }

@@ -103,22 +103,30 @@ column_size (Bytes most) = most + 4
 abbrev pub most_row_size : List Column → ℕ
 most_row_size columns = 64 + sum_by (λ c. column_size c.kind) columns
 
--- A table has 1 to 64 columns and up to 16 indexes, one of them primary, and each row has room in 16,384 bytes.
+-- A table has 1 to 64 columns, and room for its greatest row in 16,384 bytes.
+pub record AreColumns (columns : List Column) : Type 0 where
+  pub each : AllByRecursion IsColumn columns
+  pub some : 1 ≤ length columns
+  pub most : length columns ≤ 64
+  pub names : are_distinct same_column columns ≡ true
+  pub rows : most_row_size columns ≤ 16384
+
+-- It has up to 16 indexes, and one of them is primary.
+pub record AreIndexes (columns : List Column) (indexes : List IndexDef) : Type 0 where
+  pub each : AllByRecursion (IsIndex columns) indexes
+  pub most : length indexes ≤ 16
+  pub names : are_distinct same_index indexes ≡ true
+  pub primary : list_any (λ i. is_primary i.kind) indexes ≡ true
+
+-- Its name and that of its database are names.
 pub record IsTable (t : TableDef) : Type 0 where
   pub db : is_name t.db ≡ true
   pub name : is_name t.name ≡ true
-  pub columns : AllByRecursion IsColumn t.columns
-  pub some_column : 1 ≤ length t.columns
-  pub most_columns : length t.columns ≤ 64
-  pub column_names : are_distinct same_column t.columns ≡ true
-  pub indexes : AllByRecursion (IsIndex t.columns) t.indexes
-  pub most_indexes : length t.indexes ≤ 16
-  pub index_names : are_distinct same_index t.indexes ≡ true
-  pub primary : list_any (λ i. is_primary i.kind) t.indexes ≡ true
-  pub rows : most_row_size t.columns ≤ 16384
+  pub columns : AreColumns t.columns
+  pub indexes : AreIndexes t.columns t.indexes
 
 -- A schema has up to 64 tables, and no two of one name in one database.
 pub record IsValid (schema : Schema) : Type 0 where
   pub tables : AllByRecursion IsTable schema.tables
-  pub most_tables : length schema.tables ≤ 64
+  pub most : length schema.tables ≤ 64
   pub names : are_distinct same_table schema.tables ≡ true
