@@ -1,9 +1,9 @@
 -- What went well where a reading answered a value, and lists with one item more.
-use Rattle.std.proofs.Common.{◌≡◌, ◌∙◌, ℕ, ◌+◌, ◌≤◌, Bool, true, false, cond, not, ◌&&◌, ◌||◌, List, [], ◌∷◌, ◌++◌, length, Option, Some, None, Ok, Err, refl, sym, ap, arith}
+use Rattle.std.proofs.Common.{◌≡◌, ℕ, Bool, true, false, cond, not, ◌&&◌, ◌||◌, List, [], ◌∷◌, ◌++◌, Option, Some, None, Ok, Err, refl}
 use Rattle.std.specs.Prelude.{Result}
 use Rattle.std.specs.List.{list_any, AllByRecursion}
 use Rattle.row_types.specs.Valid.{are_distinct}
-use Rattle.hs_schema.specs.Reading.{◌>>=◌, Breach, known, broken}
+use Rattle.hs_schema.specs.Reading.{◌>>=◌, Breach, known}
 
 pub bind_ok : {A B : Type 0} (r : Result A Breach) (f : A → Result B Breach) (y : B) → (r >>= f) ≡ Ok y → (x : A) × (r ≡ Ok x) × (f x ≡ Ok y)
 bind_ok (Ok x) f y e = (x, refl, e)

@@ -1,27 +1,24 @@
 -- What a column spells is read again.
-use Rattle.std.proofs.Common.{◌≡◌, ◌∙◌, ℕ, zero, suc, ◌+◌, ◌-◌, ◌^◌, ◌<◌, ◌≤◌, Bool, true, false, cond, not, ◌&&◌, ◌||◌, leb, ltb, eqb, List, [], ◌∷◌, ◌++◌, length, take, drop, get_or, Option, Some, None, Ok, Err, refl, sym, ap, subst, arith, codes, zero-add, add-zero, decimal}
+use Rattle.std.proofs.Common.{◌≡◌, ◌∙◌, ℕ, zero, suc, ◌+◌, ◌^◌, ◌<◌, ◌≤◌, Bool, true, false, cond, not, leb, ltb, eqb, List, [], ◌∷◌, ◌++◌, length, drop, Some, Ok, refl, sym, ap, arith, codes, zero-add, add-zero, decimal}
 use Rattle.std.specs.Prelude.{slice_get, slice_index, flat_map}
-use Rattle.std.specs.Fmt.{signed_decimal}
-use Rattle.std.specs.Str.{bytes_eq}
-use Rattle.std.specs.List.{list_any, list_all, AllByRecursion}
-use Rattle.std.proofs.lemmas.Bool.{leb-true, ltb-false, ne_eqb}
+use Rattle.std.specs.List.{list_any, AllByRecursion}
+use Rattle.std.proofs.lemmas.Bool.{leb-true, ne_eqb}
 use Rattle.std.proofs.lemmas.Fmt.{first_decimal}
 use Rattle.std.proofs.lemmas.List.{drop-drop, length-append}
 use mathlib.Core.List.{append_assoc, append-nil}
 use Rattle.hs_token.specs.declared.tokens.Token.{Token}
 use Rattle.hs_token.specs.declared.tokens.Token.TheVariants as tokens
-use Rattle.hs_token.specs.Number.{u32_of, i64_of}
+use Rattle.hs_token.specs.Number.{u32_of}
 use Rattle.hs_token.proofs.NumberLemmas.{printed_u32, printed_i64}
 use Rattle.row_types.specs.declared.values.Value.{Value}
 use Rattle.row_types.specs.declared.values.Value.TheVariants as values
 use Rattle.row_types.specs.declared.columns.Kind.{Kind}
 use Rattle.row_types.specs.declared.columns.Kind.TheVariants as kinds
 use Rattle.row_types.specs.declared.columns.Column.{Column}
-use Rattle.row_types.specs.declared.columns.Fit.{Fit}
-use Rattle.row_types.specs.declared.columns.Fit.TheVariants.{Fine, WrongKind, Long}
+use Rattle.row_types.specs.declared.columns.Fit.TheVariants.{Fine, Long}
 use Rattle.row_types.specs.Fit.{kind_fit}
-use Rattle.row_types.specs.Valid.{is_name, is_kind, same_column, are_distinct, IsHeld, IsColumn}
-use Rattle.hs_schema.specs.Reading.{◌>>=◌, Breach, is_word, text_in, text_at, name_at, known, kind_of, sized, kind_at, nullness_of, nullness_at, preset_of, preset_in, has_column, column_name_at, column_place, column_at, columns_at}
+use Rattle.row_types.specs.Valid.{is_kind, same_column, are_distinct, IsHeld, IsColumn}
+use Rattle.hs_schema.specs.Reading.{is_word, name_at, kind_of, nullness_of, preset_in, has_column, column_name_at, column_place, column_at, columns_at}
 use Rattle.hs_schema.specs.Spelling.{kind_text, nullness_text, preset_token, column_tokens}
 use Rattle.hs_schema.proofs.Cases.{and_true, or_false}
 use Rattle.hs_schema.proofs.ColumnSteps.{goes_on, columns_end, columns_more}

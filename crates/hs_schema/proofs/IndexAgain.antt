@@ -1,10 +1,10 @@
 -- What an index spells is read again.
-use Rattle.std.proofs.Common.{◌≡◌, ◌≢◌, ◌∙◌, ℕ, zero, suc, ◌+◌, ◌-◌, ◌<◌, ◌≤◌, Bool, true, false, cond, not, ◌&&◌, ◌||◌, leb, ltb, eqb, List, [], ◌∷◌, ◌++◌, length, take, drop, map, Option, Some, None, Ok, Err, refl, sym, ap, subst, arith, codes, zero-add, add-zero}
-use Rattle.std.specs.Prelude.{slice_get, flat_map, nat_eq, nat_lt}
+use Rattle.std.proofs.Common.{◌≡◌, ◌∙◌, ℕ, zero, suc, ◌+◌, ◌<◌, ◌≤◌, Bool, true, false, cond, not, ltb, eqb, List, [], ◌∷◌, ◌++◌, length, drop, map, Some, Ok, refl, sym, ap, subst, arith, codes, add-zero}
+use Rattle.std.specs.Prelude.{slice_get, flat_map, nat_lt}
 use Rattle.std.specs.Str.{bytes_eq}
 use Rattle.std.specs.Char.{to_ascii_lowercase}
 use Rattle.std.specs.List.{list_any, list_all, AllByRecursion}
-use Rattle.std.proofs.lemmas.Bool.{leb-true, ltb-true, le-leb, lt-leb, le-ltb, eqb-true}
+use Rattle.std.proofs.lemmas.Bool.{ltb-true, le-ltb, eqb-true}
 use Rattle.std.proofs.lemmas.Slice.Eq.{bytes_eq-Decides}
 use Rattle.std.proofs.lemmas.List.{drop-drop, length-append, length-drop}
 use mathlib.Core.List.{append_assoc, append-nil}
@@ -14,8 +14,8 @@ use Rattle.row_types.specs.declared.columns.Column.{Column}
 use Rattle.row_types.specs.declared.indexes.IndexKind.{IndexKind}
 use Rattle.row_types.specs.declared.indexes.IndexKind.TheVariants.{Primary, Unique, Plain}
 use Rattle.row_types.specs.declared.indexes.IndexDef.{IndexDef}
-use Rattle.row_types.specs.Valid.{is_name_byte, is_name, same_but_case, same_column, same_index, are_distinct, is_primary, primary_name, may_be_null, IsColumn, IsIndex}
-use Rattle.hs_schema.specs.Reading.{◌>>=◌, Breach, is_word, text_at, name_at, known, names_from, place_of, parts_of, index_kind_of, suits, fine_parts, index_place, has_index, index_name_at, index_kind_at, index_at, indexes_at}
+use Rattle.row_types.specs.Valid.{is_name_byte, is_name, same_but_case, same_column, same_index, are_distinct, is_primary, primary_name, IsColumn, IsIndex}
+use Rattle.hs_schema.specs.Reading.{name_at, names_from, place_of, parts_of, index_kind_of, suits, fine_parts, index_place, has_index, index_name_at, index_kind_at, index_at, indexes_at}
 use Rattle.hs_schema.specs.Spelling.{index_kind_text, name_in, names_text, index_tokens}
 use Rattle.hs_schema.proofs.Cases.{and_true, or_false}
 use Rattle.hs_schema.proofs.IndexSteps.{goes_on, indexes_end, indexes_more}

@@ -1,5 +1,5 @@
 -- What stands between neighbours stands before each but the first.
-use Rattle.std.proofs.Common.{◌≡◌, ◌∙◌, ℕ, ◌-◌, ◌≤◌, List, [], ◌∷◌, ◌++◌, length, take, drop, get_or, Ok, Err, refl, sym, ap, arith}
+use Rattle.std.proofs.Common.{◌≡◌, ◌∙◌, ℕ, ◌-◌, ◌≤◌, List, [], ◌∷◌, ◌++◌, length, take, drop, get_or, Ok, Err, sym, ap, arith}
 use Rattle.std.specs.Prelude.{Result, OnOk, flat_map, slice_get}
 use Rattle.std.proofs.lemmas.List.{take_all}
 use mathlib.Core.List.{append_assoc, append-nil}

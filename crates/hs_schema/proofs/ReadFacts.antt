@@ -1,11 +1,11 @@
 -- A table that was read is a valid one.
-use Rattle.std.proofs.Common.{◌≡◌, ◌∙◌, ℕ, zero, suc, ◌+◌, ◌^◌, ◌<◌, ◌≤◌, ℤ, pos, negsuc, neg_ℤ, Bool, true, false, cond, not, ◌&&◌, leb, ltb, eqb, List, [], ◌∷◌, ◌++◌, length, take, drop, map, Option, Some, None, option_map, Ok, Err, refl, sym, ap, subst, arith, codes, FitsSigned}
-use Rattle.std.specs.Prelude.{slice_get, slice_index, nat_eq, nat_lt}
+use Rattle.std.proofs.Common.{◌≡◌, ◌∙◌, ℕ, zero, suc, ◌+◌, ◌^◌, ◌<◌, ◌≤◌, ℤ, pos, negsuc, neg_ℤ, Bool, true, false, cond, not, ◌&&◌, ltb, eqb, List, [], ◌∷◌, ◌++◌, length, take, drop, Option, Some, None, option_map, Ok, refl, subst, arith, codes, FitsSigned}
+use Rattle.std.specs.Prelude.{slice_get, slice_index}
 use Rattle.std.specs.Int.{w64}
 use Rattle.std.specs.Str.{bytes_eq}
 use Rattle.std.specs.Str.Parse.{digits_value}
-use Rattle.std.specs.List.{list_any, list_all, AllByRecursion}
-use Rattle.std.proofs.lemmas.Bool.{leb-true, leb-false, ltb-true, ltb-false, and_parts}
+use Rattle.std.specs.List.{AllByRecursion}
+use Rattle.std.proofs.lemmas.Bool.{ltb-true}
 use Rattle.std.proofs.lemmas.List.{length-append}
 use Rattle.hs_token.specs.declared.tokens.Token.{Token}
 use Rattle.hs_token.specs.declared.tokens.Token.TheVariants as tokens
@@ -18,7 +18,7 @@ use Rattle.row_types.specs.declared.columns.Column.{Column}
 use Rattle.row_types.specs.declared.columns.Fit.TheVariants.{Fine}
 use Rattle.row_types.specs.Fit.{kind_fit}
 use Rattle.row_types.specs.Valid.{is_name, is_kind, same_column, are_distinct, IsHeld, IsColumn}
-use Rattle.hs_schema.specs.Reading.{◌>>=◌, Breach, broken, is_word, text_at, name_at, known, kind_of, sized, kind_at, nullness_at, preset_of, preset_in, has_column, column_name_at, column_place, column_at, columns_at, columns_of}
+use Rattle.hs_schema.specs.Reading.{◌>>=◌, text_at, name_at, kind_of, sized, kind_at, nullness_at, preset_of, preset_in, has_column, column_name_at, column_place, column_at, columns_at, columns_of}
 use Rattle.hs_schema.proofs.Cases.{bind_ok, guard_ok, need_ok, known_ok, ok_same, some_same, all_push, distinct_push}
 use Rattle.hs_schema.proofs.ColumnSteps.{goes_on}
 

@@ -1,26 +1,25 @@
 -- The text of a valid schema is read again.
-use Rattle.std.proofs.Common.{◌≡◌, ◌≢◌, ◌∙◌, ℕ, suc, ◌+◌, ◌*◌, ◌<◌, ◌≤◌, Bool, true, false, leb, ltb, List, [], ◌∷◌, ◌++◌, length, drop, map, Option, Some, None, Ok, Err, refl, sym, ap, subst, arith, codes}
+use Rattle.std.proofs.Common.{◌≡◌, ◌≢◌, ◌∙◌, ℕ, suc, ◌+◌, ◌*◌, ◌<◌, ◌≤◌, true, false, ltb, List, [], ◌∷◌, ◌++◌, length, drop, Some, Ok, refl, sym, ap, arith, codes}
 use Rattle.std.specs.Prelude.{slice_get, flat_map}
-use Rattle.std.specs.List.{list_any, AllByRecursion}
+use Rattle.std.specs.List.{AllByRecursion}
 use Rattle.std.proofs.lemmas.Bool.{lt-leb, le-ltb, ne_eqb}
 use Rattle.std.proofs.lemmas.List.{length-append}
 use mathlib.Core.List.{append_assoc, append-nil}
 use Rattle.hs_token.specs.declared.tokens.Token.{Token}
-use Rattle.hs_token.specs.declared.tokens.Token.TheVariants as tokens
 use Rattle.hs_token.specs.Spelling.{line_spelled}
 use Rattle.hs_token.specs.Reading.{line_at}
 use Rattle.hs_token.proofs.LineLemmas.{line_again, one_line}
-use Rattle.hs_line.specs.Lines.{has_lf, IsLine, lines_of}
+use Rattle.hs_line.specs.Lines.{IsLine, lines_of}
 use Rattle.hs_line.proofs.LinesLemmas.{lines_of-line}
 use Rattle.row_types.specs.declared.columns.Column.{Column}
 use Rattle.row_types.specs.declared.indexes.IndexDef.{IndexDef}
 use Rattle.row_types.specs.declared.tables.TableDef.{TableDef}
 use Rattle.row_types.specs.declared.tables.Schema.{Schema}
-use Rattle.row_types.specs.Valid.{are_distinct, same_table, is_primary, most_row_size, IsColumn, IsTable, IsValid}
-use Rattle.hs_schema.specs.Reading.{is_word, name_at, columns_at, columns_of, indexes_at, has_table, index_place, table_name_at, whole_table, table_at}
-use Rattle.hs_schema.specs.Adding.{next, with_tokens, with_lines}
+use Rattle.row_types.specs.Valid.{are_distinct, same_table, most_row_size, IsTable, IsValid}
+use Rattle.hs_schema.specs.Reading.{is_word, name_at, columns_of, indexes_at, has_table, index_place, table_name_at, table_at}
+use Rattle.hs_schema.specs.Adding.{with_lines}
 use Rattle.hs_schema.specs.Spelling.{column_tokens, index_tokens, table_tokens, table_line, spelled}
-use Rattle.hs_schema.proofs.ColumnAgain.{new_at, columns_again, on_at}
+use Rattle.hs_schema.proofs.ColumnAgain.{new_at, columns_again}
 use Rattle.hs_schema.proofs.IndexAgain.{indexes_again}
 
 -- after the columns comes an index or nothing

@@ -1,21 +1,20 @@
 -- A table that was read is a valid one, as to its indexes and as a whole.
-use Rattle.std.proofs.Common.{◌≡◌, ◌∙◌, ℕ, zero, suc, ◌+◌, ◌<◌, ◌≤◌, Bool, true, false, cond, not, ◌&&◌, leb, ltb, List, [], ◌∷◌, ◌++◌, length, map, eqb, Option, Some, None, Ok, Err, refl, sym, ap, subst, arith, codes}
-use Rattle.std.specs.Prelude.{Result, slice_get, nat_eq, nat_lt}
+use Rattle.std.proofs.Common.{◌≡◌, ◌∙◌, ℕ, zero, suc, ◌+◌, ◌<◌, ◌≤◌, Bool, true, false, cond, not, ◌&&◌, leb, ltb, List, [], ◌∷◌, ◌++◌, length, eqb, Ok, refl, sym, subst, arith, codes}
+use Rattle.std.specs.Prelude.{slice_get, nat_eq, nat_lt}
 use Rattle.std.specs.Str.{bytes_eq}
 use Rattle.std.specs.List.{list_any, list_all, AllByRecursion}
-use Rattle.std.proofs.lemmas.Bool.{leb-true, leb-false, ltb-true, ltb-false}
+use Rattle.std.proofs.lemmas.Bool.{leb-false, ltb-false}
 use Rattle.std.proofs.lemmas.List.{length-append, length-map}
 use Rattle.hs_token.specs.declared.tokens.Token.{Token}
 use Rattle.row_types.specs.declared.columns.Column.{Column}
 use Rattle.row_types.specs.declared.indexes.IndexKind.{IndexKind}
 use Rattle.row_types.specs.declared.indexes.IndexDef.{IndexDef}
 use Rattle.row_types.specs.declared.tables.TableDef.{TableDef}
-use Rattle.row_types.specs.declared.tables.Schema.{Schema}
-use Rattle.row_types.specs.Valid.{is_name, are_distinct, same_index, same_table, is_primary, primary_name, may_be_null, most_row_size, IsColumn, IsIndex, IsTable, IsValid}
+use Rattle.row_types.specs.Valid.{is_name, are_distinct, same_index, same_table, is_primary, primary_name, may_be_null, most_row_size, IsIndex, IsTable, IsValid}
 use Rattle.hs_schema.specs.declared.faults.SchemaRule.TheVariants.{BadKind, TooMany}
-use Rattle.hs_schema.specs.Reading.{◌>>=◌, Breach, broken, is_word, text_at, name_at, known, names_from, place_of, parts_of, index_kind_of, suits, fine_parts, index_place, has_index, index_name_at, index_kind_at, index_at, indexes_at, columns_of, start_at, has_table, table_name_at, whole_table, table_at}
-use Rattle.hs_schema.proofs.Cases.{bind_ok, guard_ok, need_ok, known_ok, ok_same, all_push, distinct_push}
-use Rattle.hs_schema.proofs.ReadFacts.{name_ok, ColumnsSoFar, columns_of_ok}
+use Rattle.hs_schema.specs.Reading.{◌>>=◌, broken, is_word, text_at, name_at, known, names_from, place_of, parts_of, index_kind_of, suits, fine_parts, index_place, has_index, index_name_at, index_kind_at, index_at, indexes_at, columns_of, start_at, has_table, table_name_at, whole_table, table_at}
+use Rattle.hs_schema.proofs.Cases.{bind_ok, guard_ok, need_ok, ok_same, all_push, distinct_push}
+use Rattle.hs_schema.proofs.ReadFacts.{name_ok, columns_of_ok}
 
 not_false : (b : Bool) → not b ≡ false → b ≡ true
 not_false true e = refl

@@ -1,6 +1,5 @@
-use Rattle.std.proofs.Common.{◌≡◌, ◌∙◌, ◌<◌, true, false, Vec, Global, length, sym, ap, subst, arith}
+use Rattle.std.proofs.Common.{◌≡◌, ◌∙◌, ◌<◌, true, false, length, sym, ap, subst, arith}
 use Rattle.std.proofs.lemmas.Result.{err_from_is_err_and}
-use Rattle.row_types.specs.declared.columns.Column.{Column}
 use Rattle.hs_schema.specs.Reading.{Fails, column_at}
 use Rattle.hs_schema.proofs.ColumnSteps.{goes_on, asked, columns_end, columns_all, columns_next, columns_fault}
 use Rattle.hs_schema.proofs.columns.columns_of.Goals as goal

@@ -1,6 +1,5 @@
-use Rattle.std.proofs.Common.{◌≡◌, ◌∙◌, ◌<◌, ◌≤◌, true, false, Vec, Global, length, sym, ap, subst, arith}
+use Rattle.std.proofs.Common.{◌≡◌, ◌∙◌, ◌<◌, ◌≤◌, true, false, length, sym, ap, subst, arith}
 use Rattle.std.proofs.lemmas.Result.{err_from_is_err_and}
-use Rattle.row_types.specs.declared.indexes.IndexDef.{IndexDef}
 use Rattle.hs_schema.specs.Reading.{Fails, index_place, index_at}
 use Rattle.hs_schema.proofs.IndexSteps.{goes_on, asked, indexes_end, indexes_other, indexes_all, indexes_next, indexes_fault}
 use Rattle.hs_schema.proofs.indexes.indexes_of.Goals as goal

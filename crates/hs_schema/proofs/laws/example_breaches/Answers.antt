@@ -1,4 +1,4 @@
-use Rattle.std.proofs.Common.{◌≡◌, refl}
+use Rattle.std.proofs.Common.{refl}
 use Rattle.hs_schema.specs.Reading.{name_at, column_name_at, column_at, columns_at, columns_of, fine_parts, index_name_at, index_kind_at, index_at, indexes_at, table_name_at, table_at}
 use Rattle.hs_schema.proofs.laws.example_breaches.Goals as goal
 

@@ -1,5 +1,5 @@
-use Rattle.std.proofs.Common.{◌≡◌, ◌∙◌, ◌<◌, ◌≤◌, ap, arith}
-use Rattle.hs_schema.proofs.Names.{all_from, comma_step, other_step}
+use Rattle.std.proofs.Common.{◌∙◌, arith}
+use Rattle.hs_schema.proofs.Names.{comma_step, other_step}
 use Rattle.hs_schema.proofs.parts.parts_of.Goals as goal
 use Rattle.hs_schema.proofs.parts.parts_of.Goals.{then-byte-eq44+in_ok-push, else-byte-eq44}
 

@@ -1,4 +1,4 @@
-use Rattle.std.proofs.Common.{◌≡◌, ◌++◌, ◌≤◌, length, map, drop}
+use Rattle.std.proofs.Common.{◌≡◌, ◌++◌, ◌≤◌, map, drop}
 use Rattle.std.specs.Prelude.{slice_range}
 use Rattle.hs_schema.specs.Reading.{place_of, names_from, parts_of}
 use Rattle.hs_schema.proofs.parts.parts_of.Given as goal

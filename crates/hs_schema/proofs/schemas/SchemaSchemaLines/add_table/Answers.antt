@@ -1,4 +1,4 @@
-use Rattle.std.proofs.Common.{◌≡◌, ◌∙◌, ap, sym}
+use Rattle.std.proofs.Common.{◌∙◌, ap, sym}
 use Rattle.hs_schema.specs.Reading.{table_at}
 use Rattle.hs_schema.proofs.TableFacts.{stays_valid}
 use Rattle.hs_schema.proofs.schemas.SchemaSchemaLines.add_table.Goals as goal
