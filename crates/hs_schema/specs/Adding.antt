@@ -7,11 +7,12 @@ use Rattle.hs_schema.specs.declared.faults.SchemaFault.{SchemaFault}
 use Rattle.hs_schema.specs.declared.faults.SchemaFault.TheVariants.{Broken, NoMemory}
 use Rattle.hs_schema.specs.Reading.{Breach, broken, table_at}
 
--- The table of the line stands behind the others, or the line's first broken rule is answered with the number of tables, or
--- memory ran out; the tables are as before unless one was added.
+-- The table of the line stands behind the others, or the line's first broken rule is answered with the number of
+-- tables, or memory ran out. The tables are as before unless one was added.
 abbrev pub Adds : List TableDef → List TableDef → List Token → Result (Unit {0}) SchemaFault → Type 0
 Adds old new line (Ok done) = (table : TableDef) × (table_at old line ≡ Ok table) × (new ≡ old ++ table ∷ [])
-Adds old new line (Err (Broken rule table token)) = (table_at old line ≡ broken rule token) × (table ≡ length old) × (new ≡ old)
+Adds old new line (Err (Broken rule table token)) =
+    (table_at old line ≡ broken rule token) × (table ≡ length old) × (new ≡ old)
 Adds old new line (Err NoMemory) = new ≡ old
 
 -- The next line is read, unless one before it added no table.

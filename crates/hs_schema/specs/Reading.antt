@@ -71,7 +71,8 @@ sized (Some most) = if is_kind (kinds.Bytes most) then Some (kinds.Bytes most) e
 abbrev pub kind_of : List ℕ → Option Kind
 kind_of text =
     if bytes_eq text (codes "int") then Some kinds.Int
-    else if bytes_eq (take 6 text) (codes "bytes:") && not (slice_index (drop 6 text) 0 == 48) then sized (u32_of (drop 6 text))
+    else if bytes_eq (take 6 text) (codes "bytes:") && not (slice_index (drop 6 text) 0 == 48)
+    then sized (u32_of (drop 6 text))
     else None
 
 -- The kind that a text says.
@@ -80,7 +81,10 @@ kind_at line place = text_at line place >>= λ text. known place (kind_of text)
 
 -- Whether NULL is allowed: `null` or `not`.
 abbrev pub nullness_of : List ℕ → Option Bool
-nullness_of text = if bytes_eq text (codes "null") then Some true else if bytes_eq text (codes "not") then Some false else None
+nullness_of text =
+    if bytes_eq text (codes "null") then Some true
+    else if bytes_eq text (codes "not") then Some false
+    else None
 
 -- The nullness that a text says.
 abbrev pub nullness_at : List Token → ℕ → Result Bool Breach
@@ -120,16 +124,21 @@ column_at before line = do
   preset ← preset_in kind (column_place before + 4) (slice_get line (column_place before + 4))
   Ok (record { name = name; kind = kind; null = null; preset = preset })
 
--- The columns of a line, those before among them: one for each `c`, as long as there is room for one more.
+-- Whether one more column follows.
+abbrev pub column_follows : List Column → List Token → Bool
+column_follows before line = is_word (codes "c") (slice_get line (column_place before))
+
+-- The columns of a line, those before among them, as long as there is room for one more.
 unfoldable pub columns_at : ℕ → List Column → List Token → Result (List Column) Breach
-columns_at zero before line = if is_word (codes "c") (slice_get line (column_place before)) then broken TooMany (column_place before) else Ok before
+columns_at zero before line =
+    if column_follows before line then broken TooMany (column_place before) else Ok before
 columns_at (suc room) before line =
-    if is_word (codes "c") (slice_get line (column_place before)) then (column_at before line >>= λ c. columns_at room (before ++ c ∷ []) line)
+    if column_follows before line then (column_at before line >>= λ c. columns_at room (before ++ c ∷ []) line)
     else Ok before
 
 -- One column at least.
 unfoldable pub columns_of : List Token → Result (List Column) Breach
-columns_of line = if is_word (codes "c") (slice_get line 3) then columns_at 64 [] line else broken BadKind 3
+columns_of line = if column_follows [] line then columns_at 64 [] line else broken BadKind 3
 
 -- The kind of index that a word means.
 abbrev pub index_kind_of : List ℕ → Option IndexKind
@@ -246,7 +255,7 @@ table_at tables line = do
   indexes ← indexes_at 16 columns [] line
   whole_table (record { db = db; name = name; columns = columns; indexes = indexes }) (length line)
 
--- Want of memory may come with any line; a rule is broken only where the reading says so, and a table is the one that the line says.
+-- A fault is the breach of what was read; want of memory may come with any reading.
 abbrev pub Fails : {Y : Type 0} → LineFault → Result Y Breach → Type 0
 Fails (Broken rule token) read = read ≡ broken rule token
 Fails NoMemory read = Unit {0}

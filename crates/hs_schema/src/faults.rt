@@ -7,7 +7,7 @@ use thiserror::Error;
 /// The rules that a table line may break.
 #[derive(Clone, Copy, Debug, PartialEq, Eq)]
 pub enum SchemaRule {
-    /// A name isn't one, is that of no column, or is PRIMARY where it mustn't be, or isn't where it must.
+    /// A name isn't one or is that of no column, or the primary index isn't named PRIMARY, or another is.
     BadName,
     /// A token is missing or isn't what its place asks for.
     BadKind,
@@ -20,8 +20,8 @@ pub enum SchemaRule {
 /// Why a table wasn't added.
 #[derive(Debug, Drop, Error)]
 pub enum SchemaFault {
-    /// The line's fault: the first rule that is broken, the number of the table from 0, and that of the token from 0. A missing
-    /// token has the number of tokens.
+    /// The line's fault: the first rule that is broken, and the numbers of the table and of the token,
+    /// both from 0. A missing token has the number of tokens.
     #[error("table {table} breaks the rule {rule:?} at token {token}")]
     Broken {
         rule: SchemaRule,

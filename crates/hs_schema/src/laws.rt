@@ -13,15 +13,16 @@ ghost use Rattle.hs_schema.specs.Examples.{word, people_start, people_columns, p
 
 /// The lines of a valid schema's text, added one after another to no table, give its tables.
 pub fn texts_are_read_again()
-    ensures { (schema : Schema) → IsValid schema → with_lines [] (lines_of (spelled schema)) ≡ Some schema.tables }
+    ensures { (schema : Schema) → IsValid schema
+        → with_lines [] (lines_of (spelled schema)) ≡ Some schema.tables }
 {}
 
-/// A line is read only as a valid table, of a name that is new, and each such table is read from its line.
+/// A line is read only as a valid table of a new name, and each such table is read from its line.
 pub fn lines_say_the_valid_tables()
-    ensures valid { (tables : List TableDef) (line : List Token) (t : TableDef) → table_at tables line ≡ Ok t
-        → IsTable t × (has_table tables t.db t.name ≡ false) × (length tables < 64) }
-    ensures again { (tables : List TableDef) (t : TableDef) → IsTable t → has_table tables t.db t.name ≡ false
-        → length tables < 64 → table_at tables (table_tokens t) ≡ Ok t }
+    ensures valid { (tables : List TableDef) (line : List Token) (t : TableDef)
+        → table_at tables line ≡ Ok t → IsTable t × (has_table tables t.db t.name ≡ false) × (length tables < 64) }
+    ensures again { (tables : List TableDef) (t : TableDef) → IsTable t
+        → has_table tables t.db t.name ≡ false → length tables < 64 → table_at tables (table_tokens t) ≡ Ok t }
 {}
 
 /// A line, the table that it says, and the line of that table.
@@ -37,8 +38,9 @@ pub fn example_breaches()
     ensures no_column { table_at [] people_start ≡ broken BadKind 3 }
     ensures no_index { table_at [] (people_start ++ people_columns) ≡ broken NoPrimary 18 }
     ensures column_behind_indexes { table_at [] (people_line ++ word (codes "c") ∷ []) ≡ broken BadKind 30 }
-    ensures column_cut { table_at [] (people_start ++ word (codes "c") ∷ word (codes "id") ∷ []) ≡ broken BadKind 5 }
+    ensures column_cut { table_at [] (people_start ++ word (codes "c") ∷ word (codes "id") ∷ [])
+        ≡ broken BadKind 5 }
     // Of two rules at one token the kind comes first.
-    ensures null_and_unknown { table_at [] (people_start ++ people_columns ++ word (codes "i") ∷ word (codes "PRIMARY")
-        ∷ word (codes "primary") ∷ word (codes "nobody,name") ∷ []) ≡ broken BadKind 21 }
+    ensures null_and_unknown { table_at [] (people_start ++ people_columns ++ word (codes "i")
+        ∷ word (codes "PRIMARY") ∷ word (codes "primary") ∷ word (codes "nobody,name") ∷ []) ≡ broken BadKind 21 }
 {}

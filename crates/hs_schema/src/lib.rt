@@ -2,10 +2,11 @@
 //!
 //!     table <db> <name>   c <name> <kind> <nullness> <preset> ..   i <name> <kind> <columns> ..
 //!
-//! A line is a list of tokens: three, then five for each column, then four for each index. `add_table` reads one, and
-//! answers the first rule that it breaks with the number of the token there. `spell` writes the lines of all tables, and
-//! what it writes is read again. Which schema is valid says `Valid` in the specs of `row_types`; how a line is cut into
-//! tokens is the work of `hs_token`.
+//! A line is a list of tokens: three, then five for each column, then four for each index.
+//! `add_table` reads one, and answers the first rule that it breaks with the number of the token
+//! there. `spell` writes the lines of all tables, and what it writes is read again. Which schema is
+//! valid says `Valid` in the specs of `row_types`; how a line is cut into tokens is the work of
+//! `hs_token`.
 #![tactic(auto)]
 
 mod columns;

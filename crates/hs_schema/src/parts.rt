@@ -11,7 +11,7 @@ use std::alloc::{AllocError, Global};
 /// The most parts of an index.
 const MAX_PARTS: usize = 8;
 
-/// The places of the columns that a text lists; past the last column where there is none of the name.
+/// The places of the columns that a text lists, past the last where there is none of a name.
 pub(crate) fn parts_of(
     alloc: Global,
     columns: &[Column],
@@ -101,8 +101,8 @@ fn are_within(columns: &[Column], parts: &[u32]) -> bool
     parts.iter().all(|part| (*part as usize) < columns.len())
 }
 
-/// Whether no column is listed twice. It stops at the first that is, and so goes over no more parts than there are columns,
-/// and one, once each part is a column.
+/// Whether no column is listed twice. It stops at the first that is, and is called once each part
+/// is a column, so that it goes no deeper than there are columns, and one.
 fn are_distinct(parts: &[u32]) -> bool
     ensures { result ≡ are_distinct nat_eq parts.now }
 {

@@ -36,7 +36,8 @@ fn push_line(out: &mut Vec<u8>, tokens: &[Token]) -> Result<(), AllocError>
 }
 
 fn push_behind_tabs(out: &mut Vec<u8>, tokens: &[Token]) -> Result<(), AllocError>
-    ensures { OnOk result (out.new.items ≡ out.old.items ++ flat_map (λ token. 9 ∷ token_spelled token) tokens.now) }
+    ensures { OnOk result (out.new.items ≡ out.old.items
+        ++ flat_map (λ token. 9 ∷ token_spelled token) tokens.now) }
 {
     for token in tokens {
         out.push(b'\t')?;
@@ -77,7 +78,8 @@ fn push_indexes(
     columns: &[Column],
     indexes: &[IndexDef],
 ) -> Result<(), AllocError>
-    ensures { OnOk result (tokens.new.items ≡ tokens.old.items ++ flat_map (index_tokens columns.now) indexes.now) }
+    ensures { OnOk result (tokens.new.items ≡ tokens.old.items
+        ++ flat_map (index_tokens columns.now) indexes.now) }
 {
     for index in indexes {
         push_index(alloc, tokens, columns, index)?;
@@ -186,7 +188,8 @@ fn push_behind_commas(
     columns: &[Column],
     parts: &[u32],
 ) -> Result<(), AllocError>
-    ensures { OnOk result (text.new.items ≡ text.old.items ++ flat_map (λ part. 44 ∷ name_in (slice_get columns.now part)) parts.now) }
+    ensures { OnOk result (text.new.items ≡ text.old.items
+        ++ flat_map (λ part. 44 ∷ name_in (slice_get columns.now part)) parts.now) }
 {
     for part in parts {
         text.push(b',')?;

@@ -24,7 +24,8 @@ is_name_byte b = is_ascii_alphanumeric b || b == 95
 -- It has 1 to 64 of them, and no digit comes first.
 abbrev pub is_name : List ℕ → Bool
 is_name text =
-    nat_le 1 (length text) && nat_le (length text) 64 && not (is_ascii_digit (slice_index text 0)) && list_all is_name_byte text
+    nat_le 1 (length text) && nat_le (length text) 64
+    && not (is_ascii_digit (slice_index text 0)) && list_all is_name_byte text
 
 -- No item is the same, in the given sense, as one before it.
 abbrev pub are_distinct : {X : Type 0} → (X → X → Bool) → List X → Bool
