@@ -1,2 +1,4 @@
 pub mod Cause
 pub mod Disk
+pub mod Held
+pub mod Images
