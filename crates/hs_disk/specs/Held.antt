@@ -1,7 +1,8 @@
 -- What a disk in memory holds.
-use Rattle.std.specs.Prelude.{◌≡◌, ◌⊎◌, ◌↔◌, ℕ, ◌+◌, ◌-◌, ◌^◌, ◌≤◌, min, Bool, false, List, [], ◌∷◌, ◌++◌, length, IsTrue, Contains, Result, IsErr}
+use Rattle.std.specs.Prelude.{◌≡◌, ◌⊎◌, ℕ, ◌+◌, ◌-◌, ◌^◌, min, Bool, false, true, ◌||◌, ◌==◌, List, [], ◌∷◌, ◌++◌}
+use Rattle.std.specs.List.{list_any}
 use Rattle.hs_disk.specs.declared.change.Change.{Change}
-use Rattle.hs_disk.specs.Disk.{written}
+use Rattle.hs_disk.specs.declared.change.Change.TheVariants.{Wrote, LostWrite, CutTo, LostCut, Synced, Lost}
 
 -- a disk in memory
 pub record Held : Type 0 where
@@ -30,3 +31,28 @@ next_count n = min (n + 1) (2 ^ 64 - 1)
 -- the disk after a changing call that was carried out
 abbrev pub carried_out : Held → Change → List ℕ → Held
 carried_out old change bytes = record old { bytes = bytes; changes = old.changes ++ change ∷ []; calls = next_count old.calls }
+
+-- the disk after a changing call that failed and is remembered
+abbrev pub lost : Held → Change → Held
+lost old change = record old { changes = old.changes ++ change ∷ []; calls = next_count old.calls; faults = next_count old.faults }
+
+-- the disk after a changing call that failed for want of memory, of which nothing else is remembered
+abbrev pub out_of_memory : Held → Held
+out_of_memory old = record old { calls = next_count old.calls; faults = next_count old.faults; short = true }
+
+-- how a failed call leaves the disk
+abbrev pub FailsWith : Change → Held → Held → Type 0
+FailsWith change old new = ((old.short ≡ false) × (new ≡ lost old change)) ⊎ (new ≡ out_of_memory old)
+
+-- whether the next changing call fails by its number, or for want of memory
+abbrev pub is_to_fail : Held → Bool
+is_to_fail disk = disk.short || list_any (λ number. number == next_count disk.calls) disk.fail_at
+
+-- a changing call that failed, as it is remembered
+abbrev pub IsFailed : Change → Type 0
+IsFailed (Wrote at bytes) = ⊥
+IsFailed (LostWrite at n) = Unit {0}
+IsFailed (CutTo n) = ⊥
+IsFailed (LostCut n) = Unit {0}
+IsFailed Synced = ⊥
+IsFailed Lost = Unit {0}

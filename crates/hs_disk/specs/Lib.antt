@@ -2,3 +2,5 @@ pub mod Cause
 pub mod Disk
 pub mod Held
 pub mod Images
+pub mod Inside
+pub mod Sound

@@ -1,5 +1,5 @@
 //! A disk in memory, whose changing calls fail where it is told to.
-ghost use Rattle.std.specs.Prelude.{◌≡◌, ◌+◌, ◌≤◌, length, IfOk, OnOk, OnErr};
+ghost use Rattle.std.specs.Prelude.{◌≡◌, ◌+◌, ◌^◌, ◌<◌, ◌≤◌, length, take, IfOk, OnOk, OnErr};
 ghost use Rattle.hs_disk.specs.Disk.{written};
 
 use crate::change::Change;
@@ -24,20 +24,22 @@ pub struct MemDisk {
 }
 
 impl Model for MemDisk {
-    ghost use Rattle.std.specs.Prelude.{◌≡◌, ◌<◌, ◌^◌, ℕ, List, length};
     ghost use Rattle.hs_disk.specs.Held.{Held};
 
     ghost Value = { Held };
 
-    ghost use Rattle.hs_disk.specs.Images.{IsImage, read_at_end};
+    ghost use Rattle.hs_disk.specs.Sound.{IsSound};
+    ghost use Rattle.hs_disk.specs.Inside.{held};
 
-    ghost view = { λ d. record { first = d.first.items; changes = d.changes.items; bytes = d.bytes.items; fail_at = d.fail_at.items; calls = d.calls; faults = d.faults; short = d.short } };
+    ghost view = { held };
 
-    ghost invariant = { λ d. (read_at_end d.first.items d.changes.items ≡ d.bytes.items) × IsImage d.first.items d.changes.items d.bytes.items × (length d.bytes.items < 2 ^ 63) };
+    ghost invariant = { λ d. IsSound (held d) };
 }
 
 impl MemDisk {
-    ghost use Rattle.hs_disk.specs.Held.{made};
+    ghost use Rattle.hs_disk.specs.declared.change.Change.TheVariants.{Wrote, CutTo, Synced};
+    ghost use Rattle.hs_disk.specs.Held.{made, carried_out, out_of_memory, FailsWith, is_to_fail, IsFailed};
+    ghost use Rattle.hs_disk.specs.Sound.{IsSound};
 
     /// A disk with these bytes, all of them synced, whose changing calls with these numbers fail.
     pub fn of(alloc: Global, bytes: &[u8], fail_at: &[u64]) -> Result<MemDisk, AllocError>
@@ -77,6 +79,151 @@ impl MemDisk {
         ensures { result ≡ self.now.short }
     {
         self.short
+    }
+
+    // Whether the next changing call is one of those that fail.
+    fn is_to_fail(&self) -> bool
+        ensures fails { result ≡ is_to_fail self.now }
+        ensures sound { IsSound self.now }
+    {
+        self.short || self.fail_at.as_slice().contains(&self.calls.saturating_add(1))
+    }
+
+    // Counts a changing call that fails, and remembers it where there is memory.
+    fn fail(&mut self, change: Change) -> Failed
+        requires { IsFailed change }
+        ensures new { FailsWith change self.old self.new }
+        ensures was_sound { IsSound self.old }
+        ensures sound { IsSound self.new }
+    {
+        if self.short || self.changes.push(change).is_err() {
+            return self.run_short();
+        }
+        self.calls = self.calls.saturating_add(1);
+        self.faults = self.faults.saturating_add(1);
+        Failed
+    }
+
+    // Counts a changing call that fails for want of memory.
+    fn run_short(&mut self) -> Failed
+        ensures new { self.new ≡ out_of_memory self.old }
+        ensures was_sound { IsSound self.old }
+        ensures sound { IsSound self.new }
+    {
+        self.short = true;
+        self.calls = self.calls.saturating_add(1);
+        self.faults = self.faults.saturating_add(1);
+        Failed
+    }
+
+    // Writes, or changes nothing.
+    fn try_write(&mut self, at: u64, bytes: &[u8]) -> Result<(), AllocError>
+        requires place { at ≤ length self.old.bytes }
+        requires bound { at + length bytes.now < 2 ^ 63 }
+        ensures ok { OnOk result (self.new ≡ carried_out self.old (Wrote at bytes.now) (written at bytes.now self.old.bytes)) }
+        ensures err { OnErr result (self.new ≡ self.old) }
+        ensures sound { IsSound self.new }
+    {
+        let saved = Saved::of(self.alloc, bytes)?;
+        self.changes.reserve(1)?;
+        overwrite(&mut self.bytes, at as usize, bytes)?;
+        self.changes.push_reserved(Change::Wrote(at, saved));
+        self.calls = self.calls.saturating_add(1);
+        Ok(())
+    }
+
+    // Cuts, or changes nothing.
+    fn try_cut(&mut self, len: u64) -> Result<(), AllocError>
+        ensures ok { OnOk result (self.new ≡ carried_out self.old (CutTo len) (take len self.old.bytes)) }
+        ensures err { OnErr result (self.new ≡ self.old) }
+        ensures sound { IsSound self.new }
+    {
+        self.changes.push(Change::CutTo(len))?;
+        self.bytes.truncate(len as usize);
+        self.calls = self.calls.saturating_add(1);
+        Ok(())
+    }
+
+    // Syncs, or changes nothing.
+    fn try_sync(&mut self) -> Result<(), AllocError>
+        ensures ok { OnOk result (self.new ≡ carried_out self.old Synced self.old.bytes) }
+        ensures err { OnErr result (self.new ≡ self.old) }
+        ensures sound { IsSound self.new }
+    {
+        self.changes.push(Change::Synced)?;
+        self.calls = self.calls.saturating_add(1);
+        Ok(())
+    }
+}
+
+impl Disk for MemDisk {
+    ghost use Rattle.std.specs.Prelude.{length};
+    ghost use Rattle.hs_disk.specs.Images.{IsImage, WasImageSince};
+    ghost use Rattle.hs_disk.specs.Sound as sound;
+
+    ghost tells = { Unit {0} };
+
+    ghost seen = { λ d. d.bytes };
+
+    ghost may_leave = { λ d. IsImage d.first d.changes };
+
+    ghost moment = { λ d. length d.changes };
+
+    ghost left_since = { λ d. WasImageSince d.first d.changes };
+
+    ghost fault_count = { λ d. d.faults };
+
+    ghost counts_now = { λ d t image told le now. sound.counts_now d.first d.changes t image le now };
+
+    ghost only_now = { λ d image told left. sound.only_now d.first d.changes image left };
+
+    fn faults(&self) -> u64 {
+        self.faults
+    }
+
+    fn len(&mut self) -> Result<u64, Failed> {
+        Ok(self.bytes.len() as u64)
+    }
+
+    fn read(&mut self, at: u64, buf: &mut [u8]) -> Result<usize, Failed> {
+        let at = (at as usize).min(self.bytes.len());
+        let count = buf.len().min(self.bytes.len() - at);
+        buf[..count].copy_from_slice(&self.bytes[at..at + count]);
+        Ok(count)
+    }
+
+    fn write_at(&mut self, at: u64, bytes: &[u8]) -> Result<(), Failed> {
+        let len = bytes.len() as u64;
+        if at > MAX_LEN || len > MAX_LEN - at {
+            return Err(self.fail(Change::Lost));
+        }
+        if self.is_to_fail() {
+            return Err(self.fail(Change::LostWrite(at, len)));
+        }
+        match self.try_write(at, bytes) {
+            Ok(()) => Ok(()),
+            Err(AllocError) => Err(self.run_short()),
+        }
+    }
+
+    fn cut(&mut self, len: u64) -> Result<(), Failed> {
+        if self.is_to_fail() {
+            return Err(self.fail(Change::LostCut(len)));
+        }
+        match self.try_cut(len) {
+            Ok(()) => Ok(()),
+            Err(AllocError) => Err(self.run_short()),
+        }
+    }
+
+    fn sync(&mut self) -> Result<(), Failed> {
+        if self.is_to_fail() {
+            return Err(self.fail(Change::Lost));
+        }
+        match self.try_sync() {
+            Ok(()) => Ok(()),
+            Err(AllocError) => Err(self.run_short()),
+        }
     }
 }
 
