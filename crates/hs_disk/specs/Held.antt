@@ -1,6 +1,7 @@
 -- What a disk in memory holds.
-use Rattle.std.specs.Prelude.{◌≡◌, ◌⊎◌, ℕ, ◌+◌, ◌-◌, ◌^◌, min, Bool, false, true, ◌||◌, ◌==◌, List, [], ◌∷◌, ◌++◌}
+use Rattle.std.specs.Prelude.{◌≡◌, ◌⊎◌, ℕ, ◌+◌, ◌-◌, ◌^◌, min, Bool, false, true, ◌||◌, ◌==◌, List, [], ◌∷◌, ◌++◌, if◌then◌else◌}
 use Rattle.std.specs.List.{list_any}
+use Rattle.hs_disk.specs.Length.{past_end}
 use Rattle.hs_disk.specs.declared.change.Change.{Change}
 use Rattle.hs_disk.specs.declared.change.Change.TheVariants.{Wrote, LostWrite, CutTo, LostCut, Synced, Lost}
 
@@ -39,6 +40,10 @@ lost old change = record old { changes = old.changes ++ change ∷ []; calls = n
 -- the disk after a changing call that failed for want of memory, of which nothing else is remembered
 abbrev pub out_of_memory : Held → Held
 out_of_memory old = record old { calls = next_count old.calls; faults = next_count old.faults; short = true }
+
+-- a write of n bytes that failed, as it is remembered: one past the greatest length leaves nothing in doubt
+abbrev pub lost_write : ℕ → ℕ → Change
+lost_write at n = if past_end at n then Lost else LostWrite at n
 
 -- how a failed call leaves the disk
 abbrev pub FailsWith : Change → Held → Held → Type 0

@@ -3,4 +3,5 @@ pub mod Disk
 pub mod Held
 pub mod Images
 pub mod Inside
+pub mod Length
 pub mod Sound

@@ -6,6 +6,14 @@ use Rattle.hs_disk.specs.declared.change.Change.{Change}
 use Rattle.hs_disk.specs.Images.{IsImage, WasImageSince, read_at_end}
 use Rattle.hs_disk.specs.Held.{Held}
 
+-- what a crash may leave of it
+abbrev pub images : Held → List ℕ → Type 0
+images disk = IsImage disk.first disk.changes
+
+-- what a crash at some moment since t may have left of it
+abbrev pub left_since : Held → ℕ → List ℕ → Type 0
+left_since disk = WasImageSince disk.first disk.changes
+
 -- its bytes are what its calls make of the first ones, they are one of its images and fewer than 2^63, and its faults fit
 -- their counter
 pub record IsSound (disk : Held) : Type 0 where

@@ -1,6 +1,7 @@
 //! A disk in memory, whose changing calls fail where it is told to.
 ghost use Rattle.std.specs.Prelude.{◌≡◌, ◌+◌, ◌^◌, ◌<◌, ◌≤◌, length, take, IfOk, OnOk, OnErr};
 ghost use Rattle.hs_disk.specs.Disk.{written};
+ghost use Rattle.hs_disk.specs.Length.{past_end};
 
 use crate::change::Change;
 use crate::saved::Saved;
@@ -157,19 +158,23 @@ impl MemDisk {
 }
 
 impl Disk for MemDisk {
-    ghost use Rattle.std.specs.Prelude.{length};
-    ghost use Rattle.hs_disk.specs.Images.{IsImage, WasImageSince};
+    ghost use Rattle.std.specs.Prelude.{◌≡◌, ◌↔◌, ◌+◌, ◌^◌, ◌<◌, ◌≤◌, ◌||◌, length, take, IsTrue, OnOk, OnErr};
+    ghost use Rattle.std.specs.Result.{is_err};
+    ghost use Rattle.hs_disk.specs.declared.change.Change.TheVariants.{Wrote, LostWrite, CutTo, LostCut, Synced, Lost};
+    ghost use Rattle.hs_disk.specs.Disk.{written, Torn, Cut, Follows, AddsNone, Only, Elapses};
+    ghost use Rattle.hs_disk.specs.Held.{carried_out, FailsWith, is_to_fail, lost_write};
+    ghost use Rattle.hs_disk.specs.Sound.{IsSound, images, left_since};
     ghost use Rattle.hs_disk.specs.Sound as sound;
 
     ghost tells = { Unit {0} };
 
     ghost seen = { λ d. d.bytes };
 
-    ghost may_leave = { λ d. IsImage d.first d.changes };
+    ghost may_leave = { images };
 
     ghost moment = { λ d. length d.changes };
 
-    ghost left_since = { λ d. WasImageSince d.first d.changes };
+    ghost left_since = { left_since };
 
     ghost fault_count = { λ d. d.faults };
 
@@ -192,9 +197,21 @@ impl Disk for MemDisk {
         Ok(count)
     }
 
-    fn write_at(&mut self, at: u64, bytes: &[u8]) -> Result<(), Failed> {
+    fn write_at(&mut self, at: u64, bytes: &[u8]) -> Result<(), Failed>
+        requires { at ≤ length self.old.bytes }
+        ensures ok { OnOk result (self.new ≡ carried_out self.old (Wrote at bytes.now) (written at bytes.now self.old.bytes)) }
+        ensures err { OnErr result (FailsWith (lost_write at (length bytes.now)) self.old self.new) }
+        ensures room { OnOk result (at + length bytes.now < 2 ^ 63) }
+        ensures fails { IsTrue (is_err result) ↔ IsTrue (past_end at (length bytes.now) || is_to_fail self.old || self.new.short) }
+
+        // What a crash may leave.
+        ensures crash { Follows (Torn at (length bytes.now)) (images self.old) (images self.new) }
+        ensures time { Elapses (length self.old.changes) (length self.new.changes) (left_since self.old) (left_since self.new) (images self.new) }
+        ensures was_sound { IsSound self.old }
+        ensures sound { IsSound self.new }
+    {
         let len = bytes.len() as u64;
-        if at > MAX_LEN || len > MAX_LEN - at {
+        if passes_end(at, len) {
             return Err(self.fail(Change::Lost));
         }
         if self.is_to_fail() {
@@ -206,7 +223,16 @@ impl Disk for MemDisk {
         }
     }
 
-    fn cut(&mut self, len: u64) -> Result<(), Failed> {
+    fn cut(&mut self, len: u64) -> Result<(), Failed>
+        ensures ok { OnOk result (self.new ≡ carried_out self.old (CutTo len) (take len self.old.bytes)) }
+        ensures err { OnErr result (FailsWith (LostCut len) self.old self.new) }
+        ensures fails { IsTrue (is_err result) ↔ IsTrue (is_to_fail self.old || self.new.short) }
+
+        // What a crash may leave.
+        ensures crash { Follows (Cut len) (images self.old) (images self.new) }
+        ensures was_sound { IsSound self.old }
+        ensures sound { IsSound self.new }
+    {
         if self.is_to_fail() {
             return Err(self.fail(Change::LostCut(len)));
         }
@@ -216,7 +242,17 @@ impl Disk for MemDisk {
         }
     }
 
-    fn sync(&mut self) -> Result<(), Failed> {
+    fn sync(&mut self) -> Result<(), Failed>
+        ensures ok { OnOk result (self.new ≡ carried_out self.old Synced self.old.bytes) }
+        ensures err { OnErr result (FailsWith Lost self.old self.new) }
+        ensures fails { IsTrue (is_err result) ↔ IsTrue (is_to_fail self.old || self.new.short) }
+
+        // What a crash may leave.
+        ensures durable { OnOk result (Only self.old.bytes (images self.new)) }
+        ensures crash { AddsNone (images self.old) (images self.new) }
+        ensures was_sound { IsSound self.old }
+        ensures sound { IsSound self.new }
+    {
         if self.is_to_fail() {
             return Err(self.fail(Change::Lost));
         }
@@ -225,6 +261,13 @@ impl Disk for MemDisk {
             Err(AllocError) => Err(self.run_short()),
         }
     }
+}
+
+// Whether a write of so many bytes at this place would pass the greatest length.
+fn passes_end(at: u64, len: u64) -> bool
+    ensures { result ≡ past_end at len }
+{
+    at > MAX_LEN || len > MAX_LEN - at
 }
 
 // Writes over what is there, and past the end.
