@@ -1,13 +1,13 @@
 -- What one changing call leaves of a disk in memory.
-use Rattle.std.proofs.Common.{◌≡◌, ◌⊎◌, inl, inr, ℕ, ◌+◌, ◌-◌, ◌≤◌, ◌<◌, ◌^◌, min, List, [], ◌∷◌, ◌++◌, length, refl, sym, subst, arith, Result, Err}
-use Rattle.hs_disk.specs.Cause.{Rose, HasCause}
-use Rattle.hs_disk.specs.Disk.{Torn, Cut, Follows, AddsNone, Elapses}
-use Rattle.hs_disk.specs.Held.{Held, FailsWith, IsFailed, carried_out, lost, out_of_memory, next_count}
-use Rattle.hs_disk.specs.Images.{images_after, IsImage, WasImageSince, read_at_end, read_after}
+use Rattle.std.proofs.Common.{◌≡◌, ◌⊎◌, inl, inr, ℕ, ◌<◌, ◌^◌, List, [], ◌∷◌, ◌++◌, length, refl, sym, subst, arith, Err}
+use Rattle.hs_disk.specs.Cause.{HasCause}
+use Rattle.hs_disk.specs.Disk.{Follows, Elapses}
+use Rattle.hs_disk.specs.Held.{Held, FailsWith, IsFailed, carried_out, next_count}
+use Rattle.hs_disk.specs.Images.{images_after, WasImageSince, read_after}
 use Rattle.hs_disk.specs.Sound.{IsSound, images}
 use Rattle.hs_disk.specs.declared.change.Change.{Change}
 use Rattle.hs_disk.specs.declared.change.Change.TheVariants.{Wrote, LostWrite, CutTo, LostCut, Synced, Lost}
-use Rattle.hs_disk.proofs.ImageLemmas.{leaves_after, elapses_push, elapses_same, torn_same, sound_after}
+use Rattle.hs_disk.proofs.ImageLemmas.{leaves_after, elapses_push, elapses_same, torn_same}
 
 abbrev pub HeldElapses : Held → Held → Type 0
 HeldElapses old new = Elapses (length old.changes) (length new.changes) (WasImageSince old.first old.changes) (WasImageSince new.first new.changes) (images new)

@@ -1,8 +1,8 @@
 -- The images of a disk in memory after one call more.
-use Rattle.std.proofs.Common.{◌≡◌, ◌⊎◌, inl, inr, ℕ, ◌+◌, ◌≤◌, ◌<◌, ◌^◌, max, List, [], ◌∷◌, ◌++◌, length, take, drop, refl, sym, ◌∙◌, ap, subst, arith, length-append}
+use Rattle.std.proofs.Common.{◌≡◌, ◌⊎◌, inl, inr, ℕ, ◌+◌, ◌≤◌, max, List, [], ◌∷◌, ◌++◌, length, take, drop, refl, sym, ◌∙◌, ap, subst, arith, length-append}
 use Rattle.std.proofs.lemmas.List.{take_all, take_at, drop_at, take-append-le, length-take-le, length-drop, append_assoc}
 use Rattle.std.proofs.lemmas.Bool.{cases_lt}
-use Rattle.hs_disk.specs.Disk.{written, Torn, Cut, Follows, AddsNone, Only, Elapses}
+use Rattle.hs_disk.specs.Disk.{written, Torn, Elapses}
 use Rattle.hs_disk.specs.Images.{read_after, images_after, read_at_end, images_at_end, IsImage, WasImageSince}
 use Rattle.hs_disk.specs.declared.change.Change.{Change}
 
@@ -75,7 +75,7 @@ pub sound_after : (first : List ℕ) (changes later : List Change) (bytes now : 
 sound_after first changes later bytes now change more is replays reads = (
   ap (λ (l : List Change). read_at_end first l) more ∙ read_push first changes change ∙ ap (λ (l : List ℕ). read_after change l) replays ∙ sym is,
   subst (λ (l : List Change). IsImage first l now) (sym more) (push_from first (λ image. image ≡ first) changes change now
-    (subst (λ (l : List ℕ). images_after change (read_at_end first changes) (IsImage first changes) l) (sym is)
+      (subst (λ (l : List ℕ). images_after change (read_at_end first changes) (IsImage first changes) l) (sym is)
       (subst (λ (l : List ℕ). images_after change l (IsImage first changes) (read_after change bytes)) (sym replays) reads))),
 )
 

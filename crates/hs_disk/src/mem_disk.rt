@@ -4,13 +4,11 @@ ghost use Rattle.hs_disk.specs.Disk.{written};
 ghost use Rattle.hs_disk.specs.Length.{past_end};
 
 use crate::change::Change;
+use crate::length::{MAX_LEN, passes_end};
 use crate::saved::Saved;
 use crate::{Disk, Failed};
 use std::alloc::{AllocError, Global};
 use std::marker::Model;
-
-/// The greatest length of a disk.
-const MAX_LEN: u64 = (1 << 63) - 1;
 
 #[derive(Drop)]
 pub struct MemDisk {
@@ -87,7 +85,8 @@ impl MemDisk {
         ensures fails { result ≡ is_to_fail self.now }
         ensures sound { IsSound self.now }
     {
-        self.short || self.fail_at.as_slice().contains(&self.calls.saturating_add(1))
+        let number = self.calls.saturating_add(1);
+        self.short || self.fail_at.as_slice().contains(&number)
     }
 
     // Counts a changing call that fails, and remembers it where there is memory.
@@ -261,13 +260,6 @@ impl Disk for MemDisk {
             Err(AllocError) => Err(self.run_short()),
         }
     }
-}
-
-// Whether a write of so many bytes at this place would pass the greatest length.
-fn passes_end(at: u64, len: u64) -> bool
-    ensures { result ≡ past_end at len }
-{
-    at > MAX_LEN || len > MAX_LEN - at
 }
 
 // Writes over what is there, and past the end.

@@ -1,4 +1,4 @@
-use Rattle.std.proofs.Common.{◌≡◌, List, ◌∷◌, [], ◌++◌, ℕ, ◌≤◌, length, ap, arith, ◌∙◌}
+use Rattle.std.proofs.Common.{◌≡◌, ◌∷◌, [], ◌++◌, ◌≤◌, length, ap, arith, ◌∙◌}
 use Rattle.hs_disk.specs.Disk.{written}
 use Rattle.hs_disk.specs.declared.change.Change.{Change}
 use Rattle.hs_disk.specs.declared.change.Change.TheVariants.{Wrote}

@@ -1,4 +1,4 @@
-use Rattle.std.proofs.Common.{◌≡◌, inl, inr, ⊎_elim, ◌∙◌, subst, sym}
+use Rattle.std.proofs.Common.{⊎_elim, subst, sym}
 use Rattle.hs_disk.specs.declared.change.Change.TheVariants.{Synced, Lost}
 use Rattle.hs_disk.specs.Sound.{images}
 use Rattle.hs_disk.proofs.HeldLemmas.{fails_leave, out_leaves}
