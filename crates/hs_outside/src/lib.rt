@@ -1,0 +1,27 @@
+//! The outside of the program, as traits: where bytes come from and where they go.
+//!
+//! | Trait | In memory, for tests | Over a real stream |
+//! |---|---|---|
+//! | `Source` | `MemSource` | `StreamSource` over any reader |
+//! | `Sink` | `MemSink` | `StreamSink` over any writer |
+//!
+//! Each counts its failed calls, and answers a failure only where that count rose. A version in memory also tells its
+//! bytes, so that contracts can speak of them; a real stream tells nothing, and what stands of bytes is then not
+//! claimed. `write_all` gives bytes to a sink whole. What the bytes mean is left to the crates above.
+#![tactic(auto)]
+
+mod memory_sink;
+mod memory_source;
+mod sinks;
+mod sources;
+mod streams;
+#[cfg(test)]
+mod tests;
+mod writing;
+
+pub use memory_sink::MemSink;
+pub use memory_source::MemSource;
+pub use sinks::{Failed, Sink, Wrote};
+pub use sources::{Read, Source};
+pub use streams::{StreamSink, StreamSource};
+pub use writing::write_all;
