@@ -5,3 +5,4 @@ pub mod Images
 pub mod Inside
 pub mod Length
 pub mod Sound
+pub mod Writes

@@ -1,5 +1,5 @@
 //! A disk as its users see it: bytes that are read, written and synced, and the images that a crash may leave.
-ghost use Rattle.std.specs.Prelude.{◌≡◌, ◌+◌, ◌^◌, ◌<◌, ◌≤◌, List, ℕ, length, take, IfOk, OnOk, OnErr};
+ghost use Rattle.std.specs.Prelude.{◌≡◌, ◌+◌, ◌^◌, ◌<◌, ◌≤◌, ◌++◌, List, ℕ, length, take, IfOk, OnOk, OnErr};
 ghost use Rattle.hs_disk.specs.Cause.{HasCause};
 ghost use Rattle.hs_disk.specs.Disk.{written, Torn, Cut, Fills, Follows, AddsNone, Only, Elapses};
 
@@ -60,6 +60,17 @@ pub trait Disk {
         ensures time { tells → Elapses (moment self.old) (moment self.new) (left_since self.old) (left_since self.new) (may_leave self.new) }
         ensures cause { HasCause (fault_count self.old) (fault_count self.new) result };
 
+    /// Writes three pieces one after another, as `write_at` would write them joined.
+    fn write_pieces(&mut self, at: u64, head: &[u8], body: &[u8], tail: &[u8]) -> Result<(), Failed>
+        requires { tells → at ≤ length (seen self.old) }
+        ensures written { tells → OnOk result (seen self.new ≡ written at (head.now ++ body.now ++ tail.now) (seen self.old)) }
+        ensures torn { tells → OnErr result (Torn at (length (head.now ++ body.now ++ tail.now)) (seen self.old) (seen self.new)) }
+        ensures room { OnOk result (at + length (head.now ++ body.now ++ tail.now) < 2 ^ 63) }
+        ensures crash { tells → Follows (Torn at (length (head.now ++ body.now ++ tail.now))) (may_leave self.old) (may_leave self.new) }
+        ensures reading { tells → may_leave self.new (seen self.new) }
+        ensures time { tells → Elapses (moment self.old) (moment self.new) (left_since self.old) (left_since self.new) (may_leave self.new) }
+        ensures cause { HasCause (fault_count self.old) (fault_count self.new) result };
+
     /// Cuts the disk to a length, and leaves a shorter one. Until a sync, a crash may leave either length.
     fn cut(&mut self, len: u64) -> Result<(), Failed>
         ensures cut { tells → OnOk result (seen self.new ≡ take len (seen self.old)) }
@@ -116,6 +127,16 @@ impl<D: Disk> Disk for &mut D {
 
     fn write_at(&mut self, at: u64, bytes: &[u8]) -> Result<(), Failed> {
         (**self).write_at(at, bytes)
+    }
+
+    fn write_pieces(
+        &mut self,
+        at: u64,
+        head: &[u8],
+        body: &[u8],
+        tail: &[u8],
+    ) -> Result<(), Failed> {
+        (**self).write_pieces(at, head, body, tail)
     }
 
     fn cut(&mut self, len: u64) -> Result<(), Failed> {

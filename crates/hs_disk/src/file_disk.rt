@@ -1,5 +1,5 @@
 //! A file as a disk. It is trusted: no clause says what a real file holds, so it tells nothing.
-ghost use Rattle.std.specs.Prelude.{◌≡◌, ◌+◌, ◌^◌, ◌<◌, ◌≤◌, length, Ok, IfOk, OnOk};
+ghost use Rattle.std.specs.Prelude.{◌≡◌, ◌+◌, ◌^◌, ◌<◌, ◌≤◌, ◌++◌, length, Ok, IfOk, OnOk};
 ghost use Rattle.hs_disk.specs.Cause.{HasCause};
 
 use crate::length::{MAX_LEN, passes_end};
@@ -98,6 +98,17 @@ impl Disk for FileDisk {
         self.counted(answer)
     }
 
+    fn write_pieces(
+        &mut self,
+        at: u64,
+        head: &[u8],
+        body: &[u8],
+        tail: &[u8],
+    ) -> Result<(), Failed> {
+        let answer = write_joined(&self.file, at, head, body, tail);
+        self.counted(answer)
+    }
+
     fn cut(&mut self, len: u64) -> Result<(), Failed> {
         let answer = shorten(&self.file, len);
         self.counted(answer)
@@ -161,6 +172,15 @@ fn write_all(file: &File, at: u64, bytes: &[u8]) -> io::Result<()>
         }
     }
     Err(ErrorKind::Interrupted.into())
+}
+
+fn write_joined(file: &File, at: u64, head: &[u8], body: &[u8], tail: &[u8]) -> io::Result<()>
+    ensures { OnOk result (at + length (head.now ++ body.now ++ tail.now) < 2 ^ 63) }
+{
+    write_all(file, at, head)?;
+    let at = at + head.len() as u64;
+    write_all(file, at, body)?;
+    write_all(file, at + body.len() as u64, tail)
 }
 
 // Cuts the file to a length, and leaves a shorter one.

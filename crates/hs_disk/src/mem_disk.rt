@@ -1,10 +1,9 @@
 //! A disk in memory, whose changing calls fail where it is told to.
 ghost use Rattle.std.specs.Prelude.{◌≡◌, ◌+◌, ◌^◌, ◌<◌, ◌≤◌, length, take, IfOk, OnOk, OnErr};
 ghost use Rattle.hs_disk.specs.Disk.{written};
-ghost use Rattle.hs_disk.specs.Length.{past_end};
 
 use crate::change::Change;
-use crate::length::{MAX_LEN, passes_end};
+use crate::length::{MAX_LEN, joined_len};
 use crate::saved::Saved;
 use crate::{Disk, Failed};
 use std::alloc::{AllocError, Global};
@@ -117,16 +116,15 @@ impl MemDisk {
     }
 
     // Writes, or changes nothing.
-    fn try_write(&mut self, at: u64, bytes: &[u8]) -> Result<(), AllocError>
+    fn try_write(&mut self, at: u64, saved: Saved) -> Result<(), AllocError>
         requires place { at ≤ length self.old.bytes }
-        requires bound { at + length bytes.now < 2 ^ 63 }
-        ensures ok { OnOk result (self.new ≡ carried_out self.old (Wrote at bytes.now) (written at bytes.now self.old.bytes)) }
+        requires bound { at + length saved < 2 ^ 63 }
+        ensures ok { OnOk result (self.new ≡ carried_out self.old (Wrote at saved) (written at saved self.old.bytes)) }
         ensures err { OnErr result (self.new ≡ self.old) }
         ensures sound { IsSound self.new }
     {
-        let saved = Saved::of(self.alloc, bytes)?;
         self.changes.reserve(1)?;
-        overwrite(&mut self.bytes, at as usize, bytes)?;
+        overwrite(&mut self.bytes, at as usize, saved.as_slice())?;
         self.changes.push_reserved(Change::Wrote(at, saved));
         self.calls = self.calls.saturating_add(1);
         Ok(())
@@ -157,11 +155,12 @@ impl MemDisk {
 }
 
 impl Disk for MemDisk {
-    ghost use Rattle.std.specs.Prelude.{◌≡◌, ◌↔◌, ◌+◌, ◌^◌, ◌<◌, ◌≤◌, ◌||◌, length, take, IsTrue, OnOk, OnErr};
+    ghost use Rattle.std.specs.Prelude.{◌≡◌, ◌↔◌, ◌≤◌, ◌++◌, ◌||◌, length, take, IsTrue, OnOk, OnErr};
     ghost use Rattle.std.specs.Result.{is_err};
-    ghost use Rattle.hs_disk.specs.declared.change.Change.TheVariants.{Wrote, LostWrite, CutTo, LostCut, Synced, Lost};
-    ghost use Rattle.hs_disk.specs.Disk.{written, Torn, Cut, Follows, AddsNone, Only, Elapses};
-    ghost use Rattle.hs_disk.specs.Held.{carried_out, FailsWith, is_to_fail, lost_write};
+    ghost use Rattle.hs_disk.specs.declared.change.Change.TheVariants.{CutTo, LostCut, Synced, Lost};
+    ghost use Rattle.hs_disk.specs.Disk.{Cut, Follows, AddsNone, Only};
+    ghost use Rattle.hs_disk.specs.Held.{carried_out, FailsWith, is_to_fail};
+    ghost use Rattle.hs_disk.specs.Writes.{Writes};
     ghost use Rattle.hs_disk.specs.Sound.{IsSound, images, left_since};
     ghost use Rattle.hs_disk.specs.Sound as sound;
 
@@ -198,27 +197,27 @@ impl Disk for MemDisk {
 
     fn write_at(&mut self, at: u64, bytes: &[u8]) -> Result<(), Failed>
         requires { at ≤ length self.old.bytes }
-        ensures ok { OnOk result (self.new ≡ carried_out self.old (Wrote at bytes.now) (written at bytes.now self.old.bytes)) }
-        ensures err { OnErr result (FailsWith (lost_write at (length bytes.now)) self.old self.new) }
-        ensures room { OnOk result (at + length bytes.now < 2 ^ 63) }
-        ensures fails { IsTrue (is_err result) ↔ IsTrue (past_end at (length bytes.now) || is_to_fail self.old || self.new.short) }
-
-        // What a crash may leave.
-        ensures crash { Follows (Torn at (length bytes.now)) (images self.old) (images self.new) }
-        ensures time { Elapses (length self.old.changes) (length self.new.changes) (left_since self.old) (left_since self.new) (images self.new) }
-        ensures was_sound { IsSound self.old }
-        ensures sound { IsSound self.new }
+        ensures { Writes at bytes.now self.old self.new result }
     {
-        let len = bytes.len() as u64;
-        if passes_end(at, len) {
+        self.write_pieces(at, &[], bytes, &[])
+    }
+
+    fn write_pieces(&mut self, at: u64, head: &[u8], body: &[u8], tail: &[u8]) -> Result<(), Failed>
+        requires { at ≤ length self.old.bytes }
+        ensures { Writes at (head.now ++ body.now ++ tail.now) self.old self.new result }
+    {
+        let Some(len) = joined_len(at, head, body, tail) else {
             return Err(self.fail(Change::Lost));
-        }
+        };
         if self.is_to_fail() {
             return Err(self.fail(Change::LostWrite(at, len)));
         }
-        match self.try_write(at, bytes) {
-            Ok(()) => Ok(()),
+        match Saved::joined(self.alloc, head, body, tail) {
             Err(AllocError) => Err(self.run_short()),
+            Ok(saved) => match self.try_write(at, saved) {
+                Err(AllocError) => Err(self.run_short()),
+                Ok(()) => Ok(()),
+            },
         }
     }
 

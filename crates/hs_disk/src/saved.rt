@@ -1,5 +1,5 @@
 //! Bytes that were written, kept as they were.
-ghost use Rattle.std.specs.Prelude.{◌≡◌, IfOk};
+ghost use Rattle.std.specs.Prelude.{◌≡◌, ◌++◌, IfOk};
 
 use std::alloc::{AllocError, Global};
 use std::marker::Model;
@@ -18,11 +18,18 @@ impl Model for Saved {
 }
 
 impl Saved {
-    pub fn of(alloc: Global, bytes: &[u8]) -> Result<Saved, AllocError>
-        ensures { IfOk result (λ saved. saved ≡ bytes.now) }
+    pub fn joined(alloc: Global, head: &[u8], body: &[u8], tail: &[u8]) -> Result<Saved, AllocError>
+        ensures { IfOk result (λ saved. saved ≡ head.now ++ body.now ++ tail.now) }
     {
-        Ok(Saved {
-            bytes: bytes.to_vec(alloc)?,
-        })
+        let mut bytes = head.to_vec(alloc)?;
+        bytes.extend_from_slice(body)?;
+        bytes.extend_from_slice(tail)?;
+        Ok(Saved { bytes })
+    }
+
+    pub fn as_slice(&self) -> &[u8]
+        ensures { result.now ≡ self.now }
+    {
+        &self.bytes
     }
 }

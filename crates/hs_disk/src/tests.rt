@@ -31,6 +31,16 @@ fn a_call_fails_where_it_is_named_to_fail(rt: HostRuntime) -> Result<(), Fail> {
 }
 
 #[test]
+fn pieces_are_written_by_one_call(rt: HostRuntime) -> Result<(), Fail> {
+    let mut disk = MemDisk::of(rt.alloc(), b"abc", &[2])?;
+    disk.write_pieces(2, b"12", b"", b"3").ok().ok_or("write")?;
+    assert!(rt; disk.write_pieces(0, b"x", b"y", b"z").is_err());
+    assert_eq!(rt; disk.bytes(), [b'a', b'b', b'1', b'2', b'3'].as_slice());
+    assert_eq!(rt; disk.changing_calls(), 2);
+    Ok(())
+}
+
+#[test]
 fn a_read_fills_its_buffer_up_to_the_end(rt: HostRuntime) -> Result<(), Fail> {
     let mut disk = MemDisk::of(rt.alloc(), b"abc", &[])?;
     let mut buf = [0; 4];
@@ -50,14 +60,17 @@ fn a_file_holds_what_was_written(rt: HostRuntime) -> Result<(), Fail> {
     let path = "hs_disk_holds.tmp";
     let mut disk = FileDisk::open(&rt, path)?;
     disk.cut(0).ok().ok_or("cut")?;
-    disk.write_at(0, b"journal").ok().ok_or("write")?;
-    disk.cut(4).ok().ok_or("cut")?;
+    disk.write_at(0, b"jo").ok().ok_or("write")?;
+    disk.write_pieces(2, b"u", b"rna", b"l")
+        .ok()
+        .ok_or("write")?;
+    disk.cut(6).ok().ok_or("cut")?;
     disk.sync().ok().ok_or("sync")?;
     let mut again = FileDisk::open(&rt, path)?;
     let mut buf = [0; 8];
-    assert_eq!(rt; again.len().ok(), Some(4));
-    assert_eq!(rt; again.read(0, &mut buf).ok(), Some(4));
-    assert_eq!(rt; buf, [b'j', b'o', b'u', b'r', 0, 0, 0, 0]);
+    assert_eq!(rt; again.len().ok(), Some(6));
+    assert_eq!(rt; again.read(0, &mut buf).ok(), Some(6));
+    assert_eq!(rt; buf, [b'j', b'o', b'u', b'r', b'n', b'a', 0, 0]);
     assert_eq!(rt; front(again, &mut buf).1, 0);
     fs::remove_file(&rt, path)?;
     Ok(())
