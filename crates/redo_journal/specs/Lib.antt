@@ -1,2 +1,4 @@
 pub mod Gates
 pub mod Image
+pub mod Inside
+pub mod Journal

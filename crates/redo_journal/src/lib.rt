@@ -2,6 +2,8 @@
 #![tactic(auto)]
 
 mod gates;
+mod journal;
 mod refusal;
 
+pub use journal::Journal;
 pub use refusal::{DiskFault, Refusal};
