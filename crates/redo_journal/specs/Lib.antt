@@ -2,3 +2,5 @@ pub mod Gates
 pub mod Image
 pub mod Inside
 pub mod Journal
+pub mod Reading
+pub mod Records

@@ -2,8 +2,11 @@
 #![tactic(auto)]
 
 mod gates;
+mod image;
 mod journal;
+mod record;
 mod refusal;
 
 pub use journal::Journal;
+pub use record::Record;
 pub use refusal::{DiskFault, Refusal};
