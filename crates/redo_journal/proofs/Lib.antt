@@ -1,3 +1,6 @@
 mod GateLemmas
+mod HeaderLemmas
+mod ImageLemmas
 mod Moments
+mod RecordLemmas
 mod StandsLemmas
