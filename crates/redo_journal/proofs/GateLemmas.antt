@@ -35,10 +35,10 @@ module _ (front : List ℕ) where
     next = 0;
     rest = rest;
     is = is
-    ∙ ap (λ (l : List ℕ). l ++ (contents ++ 0 ∷ []) ++ rest) (upto shut.gate shut.rest seen shut.is)
-    ∙ append_assoc (front ++ shut.gate ∷ []) (contents ++ 0 ∷ []) rest
-    ∙ append_assoc front (shut.gate ∷ []) (contents ++ 0 ∷ [] ++ rest)
-    ∙ ap (λ (l : List ℕ). front ++ shut.gate ∷ l) (append_assoc contents (0 ∷ []) rest);
+        ∙ ap (λ (l : List ℕ). l ++ (contents ++ 0 ∷ []) ++ rest) (upto shut.gate shut.rest seen shut.is)
+        ∙ append_assoc (front ++ shut.gate ∷ []) (contents ++ 0 ∷ []) rest
+        ∙ append_assoc front (shut.gate ∷ []) (contents ++ 0 ∷ [] ++ rest)
+        ∙ ap (λ (l : List ℕ). front ++ shut.gate ∷ l) (append_assoc contents (0 ∷ []) rest);
     closed = omega arith;
   }
     where
@@ -52,8 +52,8 @@ module _ (front : List ℕ) where
     next = doubt.next;
     rest = doubt.rest;
     is = sym (take-append-drop (length front) image)
-    ∙ ap (λ (l : List ℕ). l ++ drop (length front) image) (torn.before ∙ before)
-    ∙ ap (λ (l : List ℕ). front ++ l) (drop_more image (length front) 0 long ∙ ap (λ (l : List ℕ). get_or image (length front) 0 ∷ l) (torn.after ∙ after));
+        ∙ ap (λ (l : List ℕ). l ++ drop (length front) image) (torn.before ∙ before)
+        ∙ ap (λ (l : List ℕ). front ++ l) (drop_more image (length front) 0 long ∙ ap (λ (l : List ℕ). get_or image (length front) 0 ∷ l) (torn.after ∙ after));
     closed = doubt.closed;
   }
     where
@@ -77,9 +77,9 @@ module _ (front : List ℕ) where
     next = doubt.next;
     rest = doubt.rest;
     is = is
-    ∙ ap (λ (l : List ℕ). l ++ (byte ∷ []) ++ drop (length front + 1) seen) before
-    ∙ ap (λ (l : List ℕ). front ++ (byte ∷ []) ++ l) after
-    ∙ append_assoc front (byte ∷ []) behind;
+        ∙ ap (λ (l : List ℕ). l ++ (byte ∷ []) ++ drop (length front + 1) seen) before
+        ∙ ap (λ (l : List ℕ). front ++ (byte ∷ []) ++ l) after
+        ∙ append_assoc front (byte ∷ []) behind;
     closed = doubt.closed;
   }
     where

@@ -36,8 +36,8 @@ reads_text image at next text bytes ends within small text_is = record {
   fits = omega (arith, size, small);
   next_is = omega (arith, ends, size);
   upto = ap (λ (n : ℕ). take n image) ends'
-  ∙ take-add at (4 + m) image
-  ∙ ap (λ (l : List ℕ). take at image ++ l) (take-add 4 m rest ∙ ap (λ (l : List ℕ). l ++ take m (drop 4 rest)) (sym head) ∙ ap (λ (l : List ℕ). to_be_bytes w32 (length text) ++ l) (sym body));
+      ∙ take-add at (4 + m) image
+      ∙ ap (λ (l : List ℕ). take at image ++ l) (take-add 4 m rest ∙ ap (λ (l : List ℕ). l ++ take m (drop 4 rest)) (sym head) ∙ ap (λ (l : List ℕ). to_be_bytes w32 (length text) ++ l) (sym body));
 }
   where
     rest : List ℕ

@@ -12,6 +12,11 @@ pub on_err : {T E : Type 0} {P : Type 0} (result : Result T E) → P → OnErr r
 on_err (Ok x) p = tt
 on_err (Err e) p = p
 
+-- what holds after either outcome
+pub either_way : {T E : Type 0} {P Q R : Type 0} (result : Result T E) → OnOk result P → OnErr result Q → (P → R) → (Q → R) → R
+either_way (Ok x) p q from_ok from_err = from_ok p
+either_way (Err e) p q from_ok from_err = from_err q
+
 -- what a call leaves, where each image is an earlier one after a step
 pub stepped : (step : List ℕ → List ℕ → Type 0) (P Q : List ℕ → Type 0) (seen : List ℕ) (old : List ℕ → Type 0) (now : List ℕ) (new : List ℕ → Type 0) → ((earlier image : List ℕ) → P earlier → step earlier image → Q image) → Throughout P seen old → Follows step old new → new now → Throughout Q now new
 stepped step P Q seen old now new into was follows reading = record {

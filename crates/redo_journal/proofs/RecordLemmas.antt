@@ -28,14 +28,14 @@ length-records-push payloads payload =
 pub stand_more : (image : List ℕ) (first gate next : ℕ) (records : List Record) (new : Record) → StandFrom image first records gate → ReadsRecord image gate new next → StandFrom image first (records ++ new ∷ []) next
 stand_more image first gate next records new stand read = record {
   places = ap (λ (l : List Record). l ++ new ∷ []) stand.places
-  ∙ ap (λ (r : Record). placed first (payloads_of records) ++ r ∷ []) new_is
-  ∙ sym (placed-push first (payloads_of records) new.payload)
-  ∙ ap (placed first) (sym more);
+      ∙ ap (λ (r : Record). placed first (payloads_of records) ++ r ∷ []) new_is
+      ∙ sym (placed-push first (payloads_of records) new.payload)
+      ∙ ap (placed first) (sym more);
   fit = subst (AllByRecursion FitsLength) (sym more) (fits-push (payloads_of records) new.payload stand.fit read.fits);
   upto = read.upto
-  ∙ ap (λ (l : List ℕ). l ++ 1 ∷ counted new.payload) stand.upto
-  ∙ append_assoc (take first image) (records_of (payloads_of records)) (1 ∷ counted new.payload)
-  ∙ ap (λ (l : List ℕ). take first image ++ l) (sym (records_of-push (payloads_of records) new.payload) ∙ ap records_of (sym more));
+      ∙ ap (λ (l : List ℕ). l ++ 1 ∷ counted new.payload) stand.upto
+      ∙ append_assoc (take first image) (records_of (payloads_of records)) (1 ∷ counted new.payload)
+      ∙ ap (λ (l : List ℕ). take first image ++ l) (sym (records_of-push (payloads_of records) new.payload) ∙ ap records_of (sym more));
   gate_is = omega (arith, read.next_is, stand.gate_is, length-records-push (payloads_of records) new.payload, ap (λ (l : List (List ℕ)). length (records_of l)) more);
   within = read.within;
 }

@@ -8,7 +8,12 @@ use crate::refusal::DiskFault;
 use hs_disk::Disk;
 
 // Writes contents, in two pieces, and a closed gate behind the gate at this place, and syncs.
-pub(crate) fn write_behind<D: Disk>(disk: &mut D, gate: u64, head: &[u8], body: &[u8]) -> Result<(), DiskFault>
+pub(crate) fn write_behind<D: Disk>(
+    disk: &mut D,
+    gate: u64,
+    head: &[u8],
+    body: &[u8],
+) -> Result<(), DiskFault>
     requires place { gate < 2 ^ 63 }
     requires within { D.tells → gate < length (D.seen disk.old) }
 

@@ -21,7 +21,11 @@ fn end_of(image: &[u8], at: usize) -> Option<usize>
         return None;
     };
     let len = u32::from_be_bytes([*a, *b, *c, *d]) as usize;
-    if rest.len() - 4 <= len { None } else { Some(at + 4 + len) }
+    if rest.len() - 4 <= len {
+        None
+    } else {
+        Some(at + 4 + len)
+    }
 }
 
 // Whether nothing was written yet.
@@ -72,7 +76,11 @@ fn read_record(alloc: Global, image: &[u8], gate: usize) -> Result<(Record, usiz
 }
 
 // The whole records from this place on, and the place of the closed gate behind them.
-pub(crate) fn read_records(alloc: Global, image: &[u8], first: usize) -> Result<(Vec<Record>, usize), Refusal>
+pub(crate) fn read_records(
+    alloc: Global,
+    image: &[u8],
+    first: usize,
+) -> Result<(Vec<Record>, usize), Refusal>
     requires { first < length image.now }
     ensures ok { IfOk result (λ read. StandFrom image.now first read.0.items read.1) }
     ensures shut { IfOk result (λ read. slice_index image.now read.1 ≢ 1) }

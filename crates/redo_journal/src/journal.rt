@@ -73,6 +73,8 @@ impl Journal {
         ensures acknowledged { D.tells → (text : List ℕ) (payloads : List (List ℕ)) (doubtful : List ℕ) → StandsOn text payloads doubtful self.old (D.seen disk.old) (D.may_leave disk.old) → OnOk result (StandsOn text (payloads ++ payload.now ∷ []) payload.now self.new (D.seen disk.new) (D.may_leave disk.new)) }
         ensures refused { D.tells → (text : List ℕ) (payloads : List (List ℕ)) (doubtful : List ℕ) → StandsOn text payloads doubtful self.old (D.seen disk.old) (D.may_leave disk.old) → OnErr result (StandsOn text payloads doubtful self.new (D.seen disk.new) (D.may_leave disk.new) ⊎ StandsOn text payloads payload.now self.new (D.seen disk.new) (D.may_leave disk.new)) }
 
+        ensures stands { D.tells → IsJournalOn self.new (D.seen disk.new) (D.may_leave disk.new) }
+
         ensures counted { OnOk result ((self.new.records ≡ self.old.records + 1) × (self.new.due ≡ false)) }
         ensures uncounted { OnErr result (self.new.records ≡ self.old.records) }
         ensures cause { HasCause (D.fault_count disk.old) (D.fault_count disk.new) result }

@@ -4,7 +4,7 @@ ghost use Rattle.hs_disk.specs.Cause.{Rose};
 ghost use Rattle.hs_disk.specs.Disk.{LeavesOnly};
 ghost use Rattle.redo_journal.specs.Image.{Journals, StandsFor, front};
 ghost use Rattle.redo_journal.specs.Gates.{Throughout};
-ghost use Rattle.redo_journal.specs.Journal.{StandsOn};
+ghost use Rattle.redo_journal.specs.Journal.{StandsOn, IsJournalOn};
 ghost use Rattle.redo_journal.specs.Opening.{Opens, RefusesImage, RefusesLoad, RefusesReading};
 ghost use Rattle.redo_journal.specs.Records.{payloads_of, placed};
 
@@ -17,11 +17,16 @@ use hs_disk::Disk;
 use std::alloc::Global;
 
 /// Reads the journal on a disk, or makes a new one where nothing was written yet. It begins with a sync.
-pub fn open_on<D: Disk>(alloc: Global, disk: &mut D, schema_text: &[u8]) -> Result<(Journal, Vec<Record>), Refusal>
+pub fn open_on<D: Disk>(
+    alloc: Global,
+    disk: &mut D,
+    schema_text: &[u8],
+) -> Result<(Journal, Vec<Record>), Refusal>
     requires { length schema_text.now < 2 ^ 32 }
 
     // What a read gives stands for the payloads that are handed out, and the journal stands behind them.
     ensures opened { D.tells → IfOk result (λ opened. StandsFor schema_text.now (payloads_of opened.1.items) (D.seen disk.old) × StandsOn schema_text.now (payloads_of opened.1.items) [] opened.0 (D.seen disk.new) (D.may_leave disk.new)) }
+    ensures stands { D.tells → IfOk result (λ opened. IsJournalOn opened.0 (D.seen disk.new) (D.may_leave disk.new)) }
     ensures places { IfOk result (λ opened. (opened.1.items ≡ placed (length (front schema_text.now [])) (payloads_of opened.1.items)) × (opened.0.records ≡ length opened.1.items) × (opened.0.due ≡ false)) }
     ensures refused { D.tells → IfErr result (RefusesImage schema_text.now (D.seen disk.old)) }
 

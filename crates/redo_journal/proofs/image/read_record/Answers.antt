@@ -17,8 +17,8 @@ returns-clause-ok c =
       place = omega arith;
       fits = read.fits;
       upto = read.upto
-      ∙ ap (λ (l : List ℕ). l ++ counted payload) (take_more image gate 0 c.requires.within ∙ ap (λ (byte : ℕ). take gate image ++ byte ∷ []) c.requires.open_gate)
-      ∙ append_assoc (take gate image) (1 ∷ []) (counted payload);
+          ∙ ap (λ (l : List ℕ). l ++ counted payload) (take_more image gate 0 c.requires.within ∙ ap (λ (byte : ℕ). take gate image ++ byte ∷ []) c.requires.open_gate)
+          ∙ append_assoc (take gate image) (1 ∷ []) (counted payload);
       next_is = omega (arith, read.next_is);
       within = c.in-Some.ensures.1;
     }

@@ -25,9 +25,9 @@ returns-in_err-write_behind-clause-moments g c tells =
 pub set_gate-requires : goal.set_gate-requires
 set_gate-requires g c = record {
   within = λ tells.
-  let blank = c.in_ok-blank.ensures.passes tells (c.requires.fresh tells) in
-  let wrote = c.in_ok-write_behind.ensures.passes tells [] refl blank.ok in
-  within_doubt [] (c.marked-head.result ++ c.args.text.now) (g.D.Disk.seen c.write_behind.new.disk) wrote.ok.reads;
+      let blank = c.in_ok-blank.ensures.passes tells (c.requires.fresh tells) in
+      let wrote = c.in_ok-write_behind.ensures.passes tells [] refl blank.ok in
+      within_doubt [] (c.marked-head.result ++ c.args.text.now) (g.D.Disk.seen c.write_behind.new.disk) wrote.ok.reads;
 }
 
 pub returns-in_err-set_gate-clause-moments : goal.returns-in_err-set_gate-clause-moments

@@ -19,12 +19,12 @@ returns-in_err-write_behind-clause-any_moment g c tells text payloads doubtful s
 pub set_gate-requires : goal.set_gate-requires
 set_gate-requires g c = record {
   within = λ tells.
-  let disk = g.D.Disk in
-  let on = c.requires.stands tells in
-  let base = front on.text on.payloads in
-  let place : c.self.inside.gate ≡ length base = ap (λ s. s.gate) c.self.view_is ∙ on.stands.place in
-  let wrote = c.in_ok-write_behind.ensures.passes tells base place (on.stands.quiet c.requires.quiet) in
-  omega (arith, place, within_doubt base (c.to_be_bytes-len.result ++ c.args.payload.now) (disk.seen c.write_behind.new.disk) wrote.ok.reads);
+      let disk = g.D.Disk in
+      let on = c.requires.stands tells in
+      let base = front on.text on.payloads in
+      let place : c.self.inside.gate ≡ length base = ap (λ s. s.gate) c.self.view_is ∙ on.stands.place in
+      let wrote = c.in_ok-write_behind.ensures.passes tells base place (on.stands.quiet c.requires.quiet) in
+      omega (arith, place, within_doubt base (c.to_be_bytes-len.result ++ c.args.payload.now) (disk.seen c.write_behind.new.disk) wrote.ok.reads);
 }
 
 pub returns-in_err-set_gate-clause-any_moment : goal.returns-in_err-set_gate-clause-any_moment

@@ -1,8 +1,8 @@
 use Rattle.std.proofs.Common.{◌≡◌, inl, inr, ⊎_elim, ℕ, true, false, List, [], ◌∷◌, ◌++◌, refl, sym, ◌∙◌, ap}
 use Rattle.std.proofs.lemmas.Bool.{true≢false}
 use Rattle.std.proofs.lemmas.Result.{on_err_weaker}
-use Rattle.redo_journal.specs.Journal.{ShowsOld, ShowsOldOrNew}
-use Rattle.redo_journal.proofs.Moments.{on_err, joined, wider}
+use Rattle.redo_journal.specs.Journal.{ShowsOld, ShowsOldOrNew, IsJournalOn}
+use Rattle.redo_journal.proofs.Moments.{on_err, either_way, joined, wider}
 use Rattle.redo_journal.proofs.journal.Journal.append.Goals as goal
 
 pub returns-in_err-repair-clause-any_moment : goal.returns-in_err-repair-clause-any_moment
@@ -38,3 +38,19 @@ returns-clause-acknowledged g c tells text payloads doubtful stands =
 pub returns-clause-refused : goal.returns-clause-refused
 returns-clause-refused g c tells text payloads doubtful stands =
     on_err_weaker c.add.result (λ new. inr new) (c.add.ensures.refused tells text payloads doubtful (c.repair.ensures.stands tells text payloads doubtful stands))
+
+pub returns-in_err-repair-clause-stands : goal.returns-in_err-repair-clause-stands
+returns-in_err-repair-clause-stands g c tells =
+    let on = c.requires.stands tells in
+    record { text = on.text; payloads = on.payloads; doubtful = on.doubtful; stands = c.repair.ensures.stands tells on.text on.payloads on.doubtful on.stands }
+
+pub returns-clause-stands : goal.returns-clause-stands
+returns-clause-stands g c tells =
+    let disk = g.D.Disk in
+    let payload = c.args.payload.now in
+    let on = c.requires.stands tells in
+    let mid = c.repair.ensures.stands tells on.text on.payloads on.doubtful on.stands in
+    let On : Type 0 = IsJournalOn c.add.new.self (disk.seen c.add.new.disk) (disk.may_leave c.add.new.disk) in
+    either_way {R = On} c.add.result (c.add.ensures.acknowledged tells on.text on.payloads on.doubtful mid) (c.add.ensures.refused tells on.text on.payloads on.doubtful mid)
+    (λ now. record { text = on.text; payloads = on.payloads ++ payload ∷ []; doubtful = payload; stands = now })
+    (λ now. record { text = on.text; payloads = on.payloads; doubtful = payload; stands = now })
