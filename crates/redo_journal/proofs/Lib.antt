@@ -4,5 +4,6 @@ mod ImageLemmas
 mod MakeLemmas
 mod Moments
 mod OpenLemmas
+mod ReadingLaws
 mod RecordLemmas
 mod StandsLemmas

@@ -12,6 +12,7 @@
 mod gates;
 mod image;
 mod journal;
+mod laws;
 mod make;
 mod open;
 mod record;
@@ -20,6 +21,7 @@ mod refusal;
 mod tests;
 
 pub use journal::Journal;
+pub use laws::an_image_reads_one_way;
 pub use open::open_on;
 pub use record::Record;
 pub use refusal::{DiskFault, Refusal};
