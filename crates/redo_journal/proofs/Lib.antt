@@ -7,3 +7,4 @@ mod OpenLemmas
 mod ReadingLaws
 mod RecordLemmas
 mod StandsLemmas
+mod WorkedExamples

@@ -1,8 +1,8 @@
 -- What a journal in the making shows.
-use Rattle.std.proofs.Common.{◌≡◌, inl, inr, ⊎_elim, ℕ, ◌+◌, ◌<◌, List, [], ◌∷◌, ◌++◌, length, refl, sym, ◌∙◌, ap, subst, arith, append_assoc, length-append}
+use Rattle.std.proofs.Common.{◌≡◌, inl, inr, ⊎_elim, ℕ, ◌+◌, List, [], ◌∷◌, ◌++◌, length, refl, sym, ◌∙◌, ap, subst, arith, append_assoc, length-append}
 use Rattle.std.specs.Int.{w32, to_be_bytes}
 use Rattle.std.proofs.lemmas.List.{append-nil}
-use Rattle.redo_journal.specs.Image.{FitsLength, Journals, ClosedAfter, IsFresh, StandsFor, front, heading, mark, counted}
+use Rattle.redo_journal.specs.Image.{FitsLength, ClosedAfter, IsFresh, StandsFor, front, heading, mark, counted}
 use Rattle.redo_journal.specs.Gates.{InDoubtAfter}
 use Rattle.redo_journal.proofs.GateLemmas.{either}
 use Rattle.redo_journal.proofs.StandsLemmas.{counted_is, length-counted, journals}

@@ -1,5 +1,5 @@
 -- How a run of calls on a disk goes on.
-use Rattle.std.proofs.Common.{◌≡◌, ◌⊎◌, inl, inr, ⊎_elim, ℕ, ◌≤◌, List, sym, subst, arith, Result, Ok, Err}
+use Rattle.std.proofs.Common.{◌≡◌, inl, inr, ⊎_elim, ℕ, List, sym, subst, arith, Result, Ok, Err}
 use Rattle.std.specs.Prelude.{OnOk, OnErr}
 use Rattle.hs_disk.specs.Disk.{Follows, AddsNone, Only, Elapses, LeavesOnly}
 use Rattle.redo_journal.specs.Gates.{Throughout}

@@ -1,5 +1,5 @@
 -- What an image is, of which the header and the records are read.
-use Rattle.std.proofs.Common.{◌≡◌, ◌≢◌, inl, inr, ℕ, ◌+◌, ◌<◌, List, [], ◌∷◌, ◌++◌, length, get_or, take, drop, refl, sym, ◌∙◌, ap, subst, arith, take-append-drop}
+use Rattle.std.proofs.Common.{◌≡◌, ◌≢◌, inr, ℕ, ◌+◌, ◌<◌, List, [], ◌∷◌, ◌++◌, length, get_or, take, drop, sym, ◌∙◌, ap, arith, take-append-drop}
 use Rattle.std.proofs.lemmas.List.{length-take-le, drop_more}
 use Rattle.redo_journal.specs.Image.{FitsLength, ClosedAfter, IsDamagedAt, front, heading, records_of}
 use Rattle.redo_journal.specs.Records.{payloads_of}

@@ -1,10 +1,10 @@
 -- An image reads one way.
-use Rattle.std.proofs.Common.{◌≡◌, ◌≢◌, ◌⊎◌, inl, inr, ℕ, ◌+◌, ◌≤◌, ◌<◌, List, [], ◌∷◌, ◌++◌, length, get_or, take, drop, refl, sym, ◌∙◌, ap, subst, arith, append_assoc, length-append}
+use Rattle.std.proofs.Common.{◌≡◌, ◌≢◌, inl, inr, ℕ, ◌<◌, List, [], ◌∷◌, ◌++◌, length, get_or, take, drop, refl, sym, ◌∙◌, ap, subst, arith, append_assoc, length-append}
 use Rattle.std.specs.List.{AllByRecursion}
 use Rattle.std.specs.Int.{w32, to_be_bytes, from_be_bytes}
 use Rattle.std.proofs.lemmas.List.{take_at, drop_at}
 use Rattle.std.proofs.lemmas.Nat.{from_be_bytes-to_be_bytes_4}
-use Rattle.redo_journal.specs.Image.{FitsLength, Journals, HasOtherText, HasDamagedHeader, HasDamagedRecord, IsDamagedAt, IsFresh, IsCutShort, front, heading, records_of, counted, length_of}
+use Rattle.redo_journal.specs.Image.{FitsLength, Journals, HasOtherText, HasDamagedHeader, IsDamagedAt, IsFresh, IsCutShort, front, heading, records_of, counted, length_of}
 use Rattle.redo_journal.proofs.StandsLemmas.{length-counted}
 
 take_counted : (text rest : List ℕ) → take 4 (counted text ++ rest) ≡ to_be_bytes w32 (length text)

@@ -1,10 +1,10 @@
 -- One record more.
-use Rattle.std.proofs.Common.{◌≡◌, ℕ, ◌+◌, List, [], ◌∷◌, ◌++◌, length, get_or, take, drop, refl, sym, ◌∙◌, ap, subst, arith, append_assoc, length-append, map}
+use Rattle.std.proofs.Common.{◌≡◌, ℕ, ◌+◌, List, [], ◌∷◌, ◌++◌, length, get_or, take, drop, sym, ◌∙◌, ap, subst, arith, append_assoc, length-append}
 use Rattle.std.proofs.lemmas.List.{map-append, drop_more}
 use Rattle.std.specs.List.{AllByRecursion}
 use Rattle.redo_journal.specs.Image.{FitsLength, records_of, counted}
 use Rattle.redo_journal.specs.Records.{payloads_of, placed}
-use Rattle.redo_journal.specs.Reading.{StandFrom, ReadsRecord, BreakOffAt, RefusesRecord, RefusesRecords}
+use Rattle.redo_journal.specs.Reading.{StandFrom, ReadsRecord, RefusesRecord, RefusesRecords}
 use Rattle.redo_journal.specs.declared.record.Record.{Record}
 use Rattle.redo_journal.specs.declared.refusal.Refusal.{Refusal}
 use Rattle.redo_journal.specs.declared.refusal.Refusal.TheVariants.{OtherSchema, Damaged, DiskFault, NoMemory}

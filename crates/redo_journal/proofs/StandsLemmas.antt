@@ -1,14 +1,14 @@
 -- What a journal stands for, from what its front, its gate and what is behind it are.
-use Rattle.std.proofs.Common.{◌≡◌, ◌⊎◌, inl, inr, ⊎_elim, ℕ, suc, ◌+◌, ◌≤◌, ◌<◌, Bool, true, false, List, [], ◌∷◌, ◌++◌, length, refl, sym, ◌∙◌, ap, subst, arith, append_assoc, length-append}
+use Rattle.std.proofs.Common.{◌≡◌, ◌⊎◌, inl, inr, ⊎_elim, ℕ, ◌+◌, ◌<◌, true, false, List, [], ◌∷◌, ◌++◌, length, sym, ◌∙◌, ap, subst, arith, append_assoc, length-append}
+use Rattle.std.specs.Prelude.{Result, Ok, Err, OnOk}
 use Rattle.std.specs.List.{AllByRecursion}
 use Rattle.std.specs.Int.{w32, to_be_bytes}
 use Rattle.std.proofs.lemmas.List.{append-nil}
 use Rattle.std.proofs.lemmas.Bool.{true≢false, cases_Bool}
 use Rattle.redo_journal.specs.Image.{FitsLength, Journals, ClosedAfter, front, heading, records_of, counted}
-use Rattle.redo_journal.specs.Gates.{InDoubtAfter, SetAfter, Throughout}
-use Rattle.redo_journal.specs.Journal.{Standing, StandsOn, ShowsOld, ShowsOldOrNew}
-use Rattle.redo_journal.proofs.GateLemmas.{either, set_open, set_closed}
-use Rattle.redo_journal.proofs.Moments.{widened}
+use Rattle.redo_journal.specs.Gates.{InDoubtAfter, Throughout}
+use Rattle.redo_journal.specs.Journal.{Standing, StandsOn, ShowsOld}
+use Rattle.redo_journal.proofs.GateLemmas.{either}
 
 pub records_of-push : (payloads : List (List ℕ)) (payload : List ℕ) → records_of (payloads ++ payload ∷ []) ≡ records_of payloads ++ 1 ∷ counted payload
 records_of-push [] payload = append-nil (1 ∷ counted payload)
@@ -99,3 +99,9 @@ module _ (text : List ℕ) (payloads : List (List ℕ)) (doubtful : List ℕ) (j
     | inl due ↦ ⊎_elim (λ old. inl old) (λ more. inr (due, more)) (shows_either text payloads stands.text_fits stands.payloads_fit doubtful image (stands.doubtful_fits due) ((stands.doubt due).leaves image left))
     | inr not_due ↦ inl (journals text payloads stands.text_fits stands.payloads_fit image ((stands.quiet not_due).leaves image left))
   ]
+
+-- each image shows the payloads after a call that left no repair due
+pub shows_new : {T E : Type 0} (text : List ℕ) (payloads : List (List ℕ)) (doubtful : List ℕ) (journal : Standing) (seen : List ℕ) (may_leave : List ℕ → Type 0) (result : Result T E) → OnOk result (StandsOn text payloads doubtful journal seen may_leave) → OnOk result (journal.due ≡ false) → OnOk result ((image : List ℕ) → may_leave image → Journals text payloads image)
+shows_new text payloads doubtful journal seen may_leave (Ok x) stands not_due =
+    λ image left. journals text payloads stands.text_fits stands.payloads_fit image ((stands.quiet not_due).leaves image left)
+shows_new text payloads doubtful journal seen may_leave (Err e) stands not_due = tt

@@ -1,5 +1,5 @@
 -- What the fields of a journal stand for.
-use Rattle.std.specs.Prelude.{ℕ, ◌<◌, ◌^◌}
+use Rattle.std.specs.Prelude.{◌<◌, ◌^◌}
 use Rattle.redo_journal.specs.Journal.{Standing}
 use Rattle.redo_journal.specs.declared.journal.Journal.TheInside.{Inside}
 

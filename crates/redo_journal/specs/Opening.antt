@@ -1,5 +1,5 @@
 -- What the opening of a journal answers.
-use Rattle.std.specs.Prelude.{◌≡◌, ℕ, Bool, false, List, [], length}
+use Rattle.std.specs.Prelude.{◌≡◌, ℕ, false, List, [], length}
 use Rattle.redo_journal.specs.Image.{Journals, HasOtherText, IsDamagedAt, front}
 use Rattle.redo_journal.specs.Journal.{Standing}
 use Rattle.redo_journal.specs.Records.{payloads_of, placed}

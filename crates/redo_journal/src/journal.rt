@@ -34,7 +34,7 @@ impl Model for Journal {
 
 impl Journal {
     ghost use Rattle.redo_journal.specs.Image.{Journals};
-    ghost use Rattle.redo_journal.specs.Journal.{Standing, StandsOn, IsJournalOn, ShowsOld, ShowsOldOrNew};
+    ghost use Rattle.redo_journal.specs.Journal.{StandsOn, IsJournalOn, ShowsOld, ShowsOldOrNew};
 
     // A journal whose last gate, at this place, is closed.
     pub(crate) fn at(gate: u64, records: u64) -> Journal
@@ -74,6 +74,10 @@ impl Journal {
         ensures refused { D.tells → (text : List ℕ) (payloads : List (List ℕ)) (doubtful : List ℕ) → StandsOn text payloads doubtful self.old (D.seen disk.old) (D.may_leave disk.old) → OnErr result (StandsOn text payloads doubtful self.new (D.seen disk.new) (D.may_leave disk.new) ⊎ StandsOn text payloads payload.now self.new (D.seen disk.new) (D.may_leave disk.new)) }
 
         ensures stands { D.tells → IsJournalOn self.new (D.seen disk.new) (D.may_leave disk.new) }
+
+        // After Ok every image has the new payload. After a fault each has those from before, or, where a repair is due, the one behind the last gate too.
+        ensures shows_new { D.tells → (text : List ℕ) (payloads : List (List ℕ)) (doubtful : List ℕ) → StandsOn text payloads doubtful self.old (D.seen disk.old) (D.may_leave disk.old) → OnOk result ((image : List ℕ) → D.may_leave disk.new image → Journals text (payloads ++ payload.now ∷ []) image) }
+        ensures shows_old { D.tells → (text : List ℕ) (payloads : List (List ℕ)) (doubtful : List ℕ) → StandsOn text payloads doubtful self.old (D.seen disk.old) (D.may_leave disk.old) → OnErr result ((image : List ℕ) → D.may_leave disk.new image → ShowsOld text payloads doubtful self.new image ⊎ ShowsOld text payloads payload.now self.new image) }
 
         ensures counted { OnOk result ((self.new.records ≡ self.old.records + 1) × (self.new.due ≡ false)) }
         ensures uncounted { OnErr result (self.new.records ≡ self.old.records) }

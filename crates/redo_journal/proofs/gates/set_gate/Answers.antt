@@ -1,7 +1,7 @@
-use Rattle.std.proofs.Common.{◌≡◌, ◌∷◌, [], List, ℕ, ap, subst, sym, ◌∙◌}
+use Rattle.std.proofs.Common.{◌∷◌, [], List, ℕ, ap, subst, ◌∙◌}
 use Rattle.std.proofs.lemmas.Result.{IfOk-from_err}
 use Rattle.hs_disk.specs.Disk.{Torn, written}
-use Rattle.redo_journal.specs.Gates.{InDoubtAfter, SetAfter, Throughout}
+use Rattle.redo_journal.specs.Gates.{InDoubtAfter, SetAfter}
 use Rattle.redo_journal.proofs.GateLemmas.{torn_gate, written_gate}
 use Rattle.redo_journal.proofs.Moments.{on_err, first_step, next_kept, synced}
 use Rattle.redo_journal.proofs.gates.set_gate.Goals as goal

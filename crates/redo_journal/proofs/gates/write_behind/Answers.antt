@@ -1,8 +1,8 @@
-use Rattle.std.proofs.Common.{◌≡◌, ◌∷◌, [], ◌++◌, ◌+◌, length, List, ℕ, ap, subst, sym, ◌∙◌}
+use Rattle.std.proofs.Common.{◌∷◌, [], ◌++◌, ◌+◌, length, List, ℕ, ap, subst, ◌∙◌}
 use Rattle.std.proofs.lemmas.Result.{IfOk-from_err}
 use Rattle.hs_disk.specs.Disk.{Torn, written}
 use Rattle.redo_journal.specs.Image.{ClosedAfter}
-use Rattle.redo_journal.specs.Gates.{InDoubtAfter, Throughout}
+use Rattle.redo_journal.specs.Gates.{InDoubtAfter}
 use Rattle.redo_journal.proofs.GateLemmas.{torn_behind, written_behind}
 use Rattle.redo_journal.proofs.Moments.{on_err, first_step, next_kept, synced}
 use Rattle.redo_journal.proofs.gates.write_behind.Goals as goal

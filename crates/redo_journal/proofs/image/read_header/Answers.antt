@@ -1,5 +1,5 @@
-use Rattle.std.proofs.Common.{◌≡◌, ◌-◌, ◌∷◌, ℕ, List, take, drop, subst, sym, ◌∙◌, arith, refl}
-use Rattle.redo_journal.specs.Image.{mark, heading, HasOtherText}
+use Rattle.std.proofs.Common.{◌≡◌, ◌-◌, ℕ, List, take, drop, subst, ◌∙◌, arith, refl}
+use Rattle.redo_journal.specs.Image.{mark}
 use Rattle.redo_journal.proofs.HeaderLemmas.{same_lists, other_lists, reads_header, has_other}
 use Rattle.redo_journal.proofs.ImageLemmas.{ReadsText, reads_text}
 use Rattle.redo_journal.proofs.image.read_header.Goals as goal

@@ -1,6 +1,6 @@
-use Rattle.std.proofs.Common.{◌≡◌, ◌+◌, ◌-◌, ◌∷◌, [], ◌++◌, ℕ, List, take, drop, ap, sym, ◌∙◌, arith, append_assoc}
+use Rattle.std.proofs.Common.{◌≡◌, ◌+◌, ◌-◌, ◌∷◌, [], ◌++◌, ℕ, List, take, drop, ap, ◌∙◌, arith, append_assoc}
 use Rattle.std.proofs.lemmas.List.{take_more}
-use Rattle.redo_journal.specs.Image.{counted, length_of}
+use Rattle.redo_journal.specs.Image.{counted}
 use Rattle.redo_journal.proofs.ImageLemmas.{reads_text}
 use Rattle.redo_journal.proofs.image.read_record.Goals as goal
 

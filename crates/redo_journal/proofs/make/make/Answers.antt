@@ -1,5 +1,5 @@
-use Rattle.std.proofs.Common.{◌≡◌, ◌∷◌, [], ◌++◌, ◌<◌, List, ℕ, length, refl, sym, ap, subst, arith, ◌∙◌}
-use Rattle.redo_journal.specs.Image.{ClosedAfter, IsFresh, StandsFor, front, heading}
+use Rattle.std.proofs.Common.{◌≡◌, ◌∷◌, [], ◌++◌, List, ℕ, refl, sym, subst, arith}
+use Rattle.redo_journal.specs.Image.{ClosedAfter, IsFresh, StandsFor, heading}
 use Rattle.redo_journal.specs.Gates.{InDoubtAfter, SetAfter, Throughout}
 use Rattle.redo_journal.proofs.GateLemmas.{set_open}
 use Rattle.redo_journal.proofs.MakeLemmas.{front-nil, length-front-nil, heading_is, fresh_stands, closed_fresh, doubt_stands}

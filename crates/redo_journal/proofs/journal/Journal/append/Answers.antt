@@ -1,8 +1,9 @@
-use Rattle.std.proofs.Common.{◌≡◌, inl, inr, ⊎_elim, ℕ, true, false, List, [], ◌∷◌, ◌++◌, refl, sym, ◌∙◌, ap}
+use Rattle.std.proofs.Common.{◌≡◌, inl, inr, ⊎_elim, ℕ, false, List, [], ◌∷◌, ◌++◌, sym, ◌∙◌, ap}
 use Rattle.std.proofs.lemmas.Bool.{true≢false}
-use Rattle.std.proofs.lemmas.Result.{on_err_weaker}
+use Rattle.std.proofs.lemmas.Result.{on_err_weaker, on_ok_weaker}
 use Rattle.redo_journal.specs.Journal.{ShowsOld, ShowsOldOrNew, IsJournalOn}
 use Rattle.redo_journal.proofs.Moments.{on_err, either_way, joined, wider}
+use Rattle.redo_journal.proofs.StandsLemmas.{shows_old, shows_new}
 use Rattle.redo_journal.proofs.journal.Journal.append.Goals as goal
 
 pub returns-in_err-repair-clause-any_moment : goal.returns-in_err-repair-clause-any_moment
@@ -54,3 +55,22 @@ returns-clause-stands g c tells =
     either_way {R = On} c.add.result (c.add.ensures.acknowledged tells on.text on.payloads on.doubtful mid) (c.add.ensures.refused tells on.text on.payloads on.doubtful mid)
     (λ now. record { text = on.text; payloads = on.payloads ++ payload ∷ []; doubtful = payload; stands = now })
     (λ now. record { text = on.text; payloads = on.payloads; doubtful = payload; stands = now })
+
+pub returns-in_err-repair-clause-shows_old : goal.returns-in_err-repair-clause-shows_old
+returns-in_err-repair-clause-shows_old g c tells text payloads doubtful stands =
+    let disk = g.D.Disk in
+    on_err c.from_residual.result (λ (image : List ℕ) (left : disk.may_leave c.repair.new.disk image). inl (shows_old text payloads doubtful c.repair.new.self (disk.seen c.repair.new.disk) (disk.may_leave c.repair.new.disk) (c.repair.ensures.stands tells text payloads doubtful stands) image left))
+
+pub returns-clause-shows_new : goal.returns-clause-shows_new
+returns-clause-shows_new g c tells text payloads doubtful stands =
+    let disk = g.D.Disk in
+    let payload = c.args.payload.now in
+    let mid = c.repair.ensures.stands tells text payloads doubtful stands in
+    shows_new text (payloads ++ payload ∷ []) payload c.add.new.self (disk.seen c.add.new.disk) (disk.may_leave c.add.new.disk) c.add.result (c.add.ensures.acknowledged tells text payloads doubtful mid) (on_ok_weaker c.add.result (λ counted. counted.1) c.add.ensures.counted)
+
+pub returns-clause-shows_old : goal.returns-clause-shows_old
+returns-clause-shows_old g c tells text payloads doubtful stands =
+    let disk = g.D.Disk in
+    let payload = c.args.payload.now in
+    let mid = c.repair.ensures.stands tells text payloads doubtful stands in
+    on_err_weaker c.add.result (λ now image left. inr (shows_old text payloads payload c.add.new.self (disk.seen c.add.new.disk) (disk.may_leave c.add.new.disk) now image left)) (c.add.ensures.refused tells text payloads doubtful mid)

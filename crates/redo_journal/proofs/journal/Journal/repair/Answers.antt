@@ -1,9 +1,9 @@
-use Rattle.std.proofs.Common.{◌≡◌, ◌≢◌, inl, inr, ⊎_elim, ℕ, true, false, List, length, refl, sym, ◌∙◌, ap, arith}
+use Rattle.std.proofs.Common.{◌≡◌, ◌≢◌, inl, inr, ⊎_elim, true, false, length, refl, sym, ◌∙◌, ap, arith}
 use Rattle.redo_journal.specs.Image.{ClosedAfter, front, counted}
-use Rattle.redo_journal.specs.Gates.{InDoubtAfter, SetAfter, Throughout}
+use Rattle.redo_journal.specs.Gates.{InDoubtAfter, SetAfter}
 use Rattle.redo_journal.specs.Journal.{ShowsOld}
 use Rattle.redo_journal.proofs.GateLemmas.{set_closed}
-use Rattle.redo_journal.proofs.Moments.{widened, wider, started}
+use Rattle.redo_journal.proofs.Moments.{widened, wider}
 use Rattle.redo_journal.proofs.StandsLemmas.{shows_either, stands_quiet, stands_in_doubt}
 use Rattle.redo_journal.proofs.journal.Journal.repair.Goals as goal
 
