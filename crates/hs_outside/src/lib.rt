@@ -7,11 +7,13 @@
 //!
 //! Each counts its failed calls, and answers a failure only where that count rose. A version in memory also tells its
 //! bytes, so that contracts can speak of them; a real stream tells nothing, and what stands of bytes is then not
-//! claimed. `write_all` gives bytes to a sink whole. What the bytes mean is left to the crates above.
+//! claimed. `write_all` gives bytes to a sink whole. `Port` names a server's three ports. What the bytes mean is left to
+//! the crates above.
 #![tactic(auto)]
 
 mod memory_sink;
 mod memory_source;
+mod ports;
 mod sinks;
 mod sources;
 mod streams;
@@ -21,6 +23,7 @@ mod writing;
 
 pub use memory_sink::MemSink;
 pub use memory_source::MemSource;
+pub use ports::Port;
 pub use sinks::{Failed, Sink, Wrote};
 pub use sources::{Read, Source};
 pub use streams::{StreamSink, StreamSource};

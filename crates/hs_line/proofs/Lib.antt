@@ -1,0 +1,4 @@
+pub mod LinesLemmas
+pub mod WholeLines
+pub mod FirstLines
+pub mod PieceLemmas

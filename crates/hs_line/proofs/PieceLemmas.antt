@@ -1,0 +1,51 @@
+-- Pieces one after another, and one step of a run over them.
+use Rattle.std.proofs.Common.{◌≡◌, ℕ, zero, suc, ◌+◌, ◌<◌, List, [], ◌∷◌, ◌++◌, Some, slice_get, length, take, get_or, refl, sym, ap, ◌∙◌, subst, arith, append_assoc}
+use Rattle.std.specs.List.{AllByRecursion}
+use Rattle.std.proofs.lemmas.List.{append-nil, take_more}
+use Rattle.std.proofs.lemmas.Option.{slice_get_read}
+use Rattle.hs_line.specs.declared.pieces.Piece.{Piece}
+use Rattle.hs_line.specs.Lines.{lines_of, rest_of}
+use Rattle.hs_line.specs.Pieces.{stream_of, most_taken, IsDrained}
+use Rattle.hs_line.proofs.LinesLemmas.{lines_of-append, rest_of-append}
+
+stream_of-push : (pieces : List Piece) (piece : Piece) → stream_of (pieces ++ piece ∷ []) ≡ stream_of pieces ++ piece.bytes
+stream_of-push [] piece = append-nil piece.bytes
+stream_of-push (first ∷ pieces) piece = ap (λ (l : List ℕ). first.bytes ++ l) (stream_of-push pieces piece) ∙ sym (append_assoc first.bytes (stream_of pieces) piece.bytes)
+
+most_taken-push : (pieces : List Piece) (piece : Piece) → most_taken (pieces ++ piece ∷ []) ≡ most_taken pieces + piece.takes
+most_taken-push [] piece = omega arith
+most_taken-push (first ∷ pieces) piece = omega (arith, most_taken-push pieces piece)
+
+-- what holds of each piece holds of the one at a place
+each_at : (P : Piece → Type 0) (pieces : List Piece) (i : ℕ) (piece : Piece) → slice_get pieces i ≡ Some piece → AllByRecursion P pieces → P piece
+each_at P [] i piece is each = absurd (let no : slice_get {X = Piece} [] i ≡ Some piece = is in cc)
+each_at P (first ∷ pieces) zero piece is each = let same : first ≡ piece = cc in subst P same each.0
+each_at P (first ∷ pieces) (suc i) piece is each = each_at P pieces i piece is each.1
+
+-- the piece at a place joins the pieces before it
+module _ (pieces : List Piece) (i : ℕ) (piece : Piece) (within : i < length pieces) (is : piece ≡ get_or pieces i piece) where
+  take_next : take (i + 1) pieces ≡ take i pieces ++ piece ∷ []
+  take_next = take_more pieces i piece within ∙ ap (λ (p : Piece). take i pieces ++ p ∷ []) (sym is)
+
+  pub stream_of-next : stream_of (take (i + 1) pieces) ≡ stream_of (take i pieces) ++ piece.bytes
+  stream_of-next = ap stream_of take_next ∙ stream_of-push (take i pieces) piece
+
+  pub most_taken-next : most_taken (take (i + 1) pieces) ≡ most_taken (take i pieces) + piece.takes
+  most_taken-next = ap most_taken take_next ∙ most_taken-push (take i pieces) piece
+
+  pub at_place : slice_get pieces i ≡ Some piece
+  at_place = slice_get_read pieces (length pieces) i piece refl within is
+
+  pub IsDrained-at : AllByRecursion IsDrained pieces → IsDrained piece
+  IsDrained-at each = each_at IsDrained pieces i piece at_place each
+
+-- lines and rest of a stream that was cut so far, after a piece
+module _ (before held bytes : List ℕ) (rest : rest_of held ≡ rest_of before) where
+  pub rest_of-step : rest_of (held ++ bytes) ≡ rest_of (before ++ bytes)
+  rest_of-step = rest_of-append held bytes ∙ ap (λ (l : List ℕ). rest_of (l ++ bytes)) rest ∙ sym (rest_of-append before bytes)
+
+  pub lines_of-step : (lines : List (List ℕ)) → lines ++ lines_of held ≡ lines_of before → lines ++ lines_of (held ++ bytes) ≡ lines_of (before ++ bytes)
+  lines_of-step lines all =
+      ap (λ (l : List (List ℕ)). lines ++ l) (lines_of-append held bytes) ∙ sym (append_assoc lines (lines_of held) (lines_of (rest_of held ++ bytes)))
+      ∙ ap (λ (l : List (List ℕ)). l ++ lines_of (rest_of held ++ bytes)) all ∙ ap (λ (l : List ℕ). lines_of before ++ lines_of (l ++ bytes)) rest
+      ∙ sym (lines_of-append before bytes)

@@ -1,0 +1,150 @@
+//! A script that is read in pieces, line by line.
+ghost use Rattle.std.specs.Prelude.{◌≡◌, ◌+◌, ◌<◌, ◌≤◌, [], true, false, length, IfOk};
+ghost use Rattle.hs_line.specs.Lines.{has_lf};
+ghost use Rattle.hs_replay.specs.Running.{start, StepDoes, RestIs, HeldEnds};
+ghost use Rattle.hs_replay.specs.Ends.{Ends};
+
+use crate::ends::{Ending, Step};
+use crate::replay_state::Replay;
+use bytes::Bytes;
+use hs_line::{BUFFER_SIZE, LineBuf, MAX_LINE_LEN};
+use hs_outside::{Read, Sink, Source};
+use std::alloc::{AllocError, Global};
+use std::marker::Model;
+
+/// How many bytes of a script are read at once: with a line that is not whole yet they fit the buffer.
+const PIECE_SIZE: usize = BUFFER_SIZE - MAX_LINE_LEN;
+
+/// What is held of a script that was read in part.
+#[derive(Drop)]
+struct Runner {
+    held: LineBuf,
+    lines: u64,
+    replay: Replay,
+}
+
+impl Model for Runner {
+    ghost use Rattle.hs_replay.specs.Running.{Held};
+
+    ghost Value = { Held };
+
+    ghost view = { λ r. record { bytes = r.held; lines = r.lines; state = r.replay } };
+}
+
+impl Runner {
+    fn new(alloc: Global) -> Result<Runner, AllocError>
+        ensures { IfOk result (λ runner. runner ≡ start) }
+    {
+        Ok(Runner {
+            held: LineBuf::new(alloc)?,
+            lines: 0,
+            replay: Replay::new(alloc),
+        })
+    }
+
+    /// Carries out the first line that is held.
+    fn take_line<K: Sink>(&mut self, alloc: Global, out: &mut K) -> Step
+        requires { has_lf self.old.bytes ≡ true }
+        ensures does { StepDoes result self.old self.new (K.taker out.old) (K.taker out.new) [] }
+        ensures shorter { result ≡ Step.Done → length self.new.bytes < length self.old.bytes }
+        ensures later { (K.taker out.old).faults ≤ (K.taker out.new).faults }
+    {
+        let Some(number) = self.lines.checked_add(1) else {
+            return Step::Memory;
+        };
+        let Ok(Some(line)) = self.held.take_line() else {
+            return Step::Memory;
+        };
+        let Ok(event) = self.replay.event_in(alloc, &line) else {
+            return Step::Memory;
+        };
+        let Some(event) = event else {
+            return Step::Bad(number);
+        };
+        self.lines = number;
+        self.replay.take_event(alloc, out, event)
+    }
+
+    /// Carries out the lines that are held, up to one that is not whole yet.
+    fn take_lines<K: Sink>(&mut self, alloc: Global, out: &mut K) -> Step
+        ensures does { StepDoes result self.old self.new (K.taker out.old) (K.taker out.new) [] }
+        ensures drained { result ≡ Step.Done → has_lf self.new.bytes ≡ false }
+        ensures later { (K.taker out.old).faults ≤ (K.taker out.new).faults }
+    {
+        while self.held.has_line() {
+            match self.take_line(alloc, out) {
+                Step::Done => {}
+                step => return step,
+            }
+        }
+        Step::Done
+    }
+
+    /// Takes the next bytes of the script. What its lines print is printed before more is read.
+    fn take_piece<K: Sink>(&mut self, alloc: Global, out: &mut K, piece: &[u8]) -> Step
+        requires { length self.old.bytes + length piece.now ≤ BUFFER_SIZE }
+        ensures does { StepDoes result self.old self.new (K.taker out.old) (K.taker out.new) piece.now }
+        ensures drained { result ≡ Step.Done → has_lf self.new.bytes ≡ false }
+        ensures room { result ≡ Step.Done → length self.new.bytes ≤ MAX_LINE_LEN }
+        ensures later { (K.taker out.old).faults ≤ (K.taker out.new).faults }
+    {
+        self.held.push(piece);
+        match self.take_lines(alloc, out) {
+            Step::Done => self.check_rest(),
+            step => step,
+        }
+    }
+
+    /// A line that is too long already is bad, whatever its end.
+    fn check_rest(&self) -> Step
+        requires { has_lf self.now.bytes ≡ false }
+        ensures { RestIs result self.now }
+    {
+        if !self.held.is_too_long() {
+            return Step::Done;
+        }
+        match self.lines.checked_add(1) {
+            Some(number) => Step::Bad(number),
+            None => Step::Memory,
+        }
+    }
+
+    /// How a script ends of which no more comes.
+    fn ending(&self) -> Ending
+        requires { has_lf self.now.bytes ≡ false }
+        ensures { HeldEnds result self.now }
+    {
+        if self.held.room() == BUFFER_SIZE && self.replay.may_end() {
+            return Ending::Whole;
+        }
+        match self.lines.checked_add(1) {
+            Some(number) => Ending::BadLine(number),
+            None => Ending::Memory,
+        }
+    }
+}
+
+/// Runs the script to its end, or to what keeps it from its end.
+pub fn run<S: Source, K: Sink>(alloc: Global, script: &mut S, out: &mut K) -> Ending
+    ensures ends { Ends result (S.giver script.old) (S.giver script.new) (K.taker out.old) (K.taker out.new) }
+    ensures script_later { (S.giver script.old).faults ≤ (S.giver script.new).faults }
+    ensures out_later { (K.taker out.old).faults ≤ (K.taker out.new).faults }
+{
+    let Ok(mut runner) = Runner::new(alloc) else {
+        return Ending::Memory;
+    };
+    let mut buffer = [0u8; PIECE_SIZE];
+    for _ in 0..u64::MAX {
+        match script.read(&mut buffer) {
+            Read::Got(count) => match runner.take_piece(alloc, out, &buffer[..count]) {
+                Step::Done => {}
+                Step::Bad(number) => return Ending::BadLine(number),
+                Step::Unwritten => return Ending::Unwritten,
+                Step::Memory => return Ending::Memory,
+            },
+            Read::End => return runner.ending(),
+            Read::Failed => return Ending::Unread,
+        }
+    }
+    Ending::Memory
+}

@@ -1,0 +1,5 @@
+pub mod Spelling
+pub mod Reading
+pub mod Number
+pub mod Steps
+pub mod Examples

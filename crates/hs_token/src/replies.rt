@@ -1,0 +1,62 @@
+//! Writing a reply.
+ghost use Rattle.std.specs.Prelude.{◌≡◌, ◌∷◌, ◌++◌, OnOk, OnErr, decimal};
+ghost use Rattle.hs_token.specs.Spelling.{token_spelled, reply_line};
+ghost use Rattle.hs_token.specs.Steps.{Extends};
+
+use crate::tokens::{TAB, Token, append_token};
+use itoa::Buffer;
+use std::alloc::AllocError;
+
+const LINE_FEED: u8 = 0x0A;
+
+/// Appends a reply: the code, the number of columns, the tokens and the LF.
+pub fn push_reply(
+    out: &mut Vec<u8>,
+    code: u32,
+    columns: u32,
+    tokens: &[Token],
+) -> Result<(), AllocError>
+    ensures ok { OnOk result (out.new.items ≡ out.old.items ++ reply_line code columns tokens.now) }
+    ensures err { OnErr result (out.new.items ≡ out.old.items) }
+{
+    let len = out.len();
+    let pushed = append_reply(out, code, columns, tokens);
+    if pushed.is_err() {
+        out.truncate(len);
+    }
+    pushed
+}
+
+fn append_reply(
+    out: &mut Vec<u8>,
+    code: u32,
+    columns: u32,
+    tokens: &[Token],
+) -> Result<(), AllocError>
+    ensures ok { OnOk result (out.new.items ≡ out.old.items ++ reply_line code columns tokens.now) }
+    ensures err { OnErr result (Extends out.old.items out.new.items) }
+{
+    append_number(out, code)?;
+    out.push(TAB)?;
+    append_number(out, columns)?;
+    for token in tokens {
+        append_behind_tab(out, token)?;
+    }
+    Ok(out.push(LINE_FEED)?)
+}
+
+fn append_behind_tab(out: &mut Vec<u8>, token: &Token) -> Result<(), AllocError>
+    ensures ok { OnOk result (out.new.items ≡ out.old.items ++ 9 ∷ token_spelled token.now) }
+    ensures err { OnErr result (Extends out.old.items out.new.items) }
+{
+    out.push(TAB)?;
+    append_token(out, token)
+}
+
+fn append_number(out: &mut Vec<u8>, number: u32) -> Result<(), AllocError>
+    ensures ok { OnOk result (out.new.items ≡ out.old.items ++ decimal number) }
+    ensures err { OnErr result (out.new.items ≡ out.old.items) }
+{
+    let mut buffer = Buffer::new();
+    out.extend_from_slice(buffer.format(number).as_bytes())
+}
