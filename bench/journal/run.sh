@@ -9,7 +9,7 @@ top=$(cd "$here/../.." && pwd)
 work=$(mktemp -d "${1:-/tmp}/journal.XXXXXX")
 trap 'rm -rf "$work"' EXIT
 mkdir -p "$work/crates/bench_journal/src"
-for crate in row_types hs_disk redo_journal; do
+for crate in fault_count row_types hs_disk redo_journal; do
     mkdir "$work/crates/$crate"
     for part in src specs proofs; do
         if [ -d "$top/crates/$crate/$part" ]; then cp -r "$top/crates/$crate/$part" "$work/crates/$crate/$part"; fi
@@ -18,12 +18,8 @@ done
 cp "$here/program/src/main.rt.txt" "$work/crates/bench_journal/src/main.rt"
 cd "$work"
 git init -q .
-cat > crates.txt <<'LIST'
-row_types:
-hs_disk:
-redo_journal: row_types hs_disk thiserror
-bench_journal: hs_disk redo_journal
-LIST
+grep -E '^(fault_count|row_types|hs_disk|redo_journal):' "$top/crates.txt" > crates.txt
+echo 'bench_journal: hs_disk redo_journal' >> crates.txt
 cd crates/bench_journal
 rt run > /dev/null
 for round in 1 2 3; do

@@ -1,6 +1,6 @@
 -- What one changing call leaves of a disk in memory.
 use Rattle.std.proofs.Common.{◌≡◌, ◌⊎◌, inl, inr, ℕ, ◌<◌, ◌^◌, List, [], ◌∷◌, ◌++◌, length, refl, sym, subst, arith, Err}
-use Rattle.hs_disk.specs.Cause.{HasCause}
+use Rattle.fault_count.specs.Cause.{HasCause}
 use Rattle.hs_disk.specs.Disk.{Follows, Elapses}
 use Rattle.hs_disk.specs.Held.{Held, FailsWith, IsFailed, carried_out, next_count}
 use Rattle.hs_disk.specs.Images.{images_after, WasImageSince, read_after}

@@ -1,6 +1,7 @@
 -- What a disk in memory holds.
-use Rattle.std.specs.Prelude.{◌≡◌, ◌⊎◌, ℕ, ◌+◌, ◌-◌, ◌^◌, min, Bool, false, true, ◌||◌, ◌==◌, List, [], ◌∷◌, ◌++◌, if◌then◌else◌}
+use Rattle.std.specs.Prelude.{◌≡◌, ◌⊎◌, ℕ, Bool, false, true, ◌||◌, ◌==◌, List, [], ◌∷◌, ◌++◌, if◌then◌else◌}
 use Rattle.std.specs.List.{list_any}
+pub use Rattle.fault_count.specs.Cause.{next_count}
 use Rattle.hs_disk.specs.Length.{past_end}
 use Rattle.hs_disk.specs.declared.change.Change.{Change}
 use Rattle.hs_disk.specs.declared.change.Change.TheVariants.{Wrote, LostWrite, CutTo, LostCut, Synced, Lost}
@@ -24,10 +25,6 @@ pub record Held : Type 0 where
 -- a disk that was made with these bytes
 abbrev pub made : List ℕ → List ℕ → Held
 made bytes fail_at = record { first = bytes; changes = []; bytes = bytes; fail_at = fail_at; calls = 0; faults = 0; short = false }
-
--- a count one higher, which stands still at its type's end
-abbrev pub next_count : ℕ → ℕ
-next_count n = min (n + 1) (2 ^ 64 - 1)
 
 -- the disk after a changing call that was carried out
 abbrev pub carried_out : Held → Change → List ℕ → Held

@@ -1,4 +1,4 @@
-pub mod Cause
+pub use Rattle.fault_count.specs.Cause
 pub mod Disk
 pub mod Held
 pub mod Images

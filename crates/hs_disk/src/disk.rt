@@ -1,6 +1,6 @@
 //! A disk as its users see it: bytes that are read, written and synced, and the images that a crash may leave.
 ghost use Rattle.std.specs.Prelude.{◌≡◌, ◌+◌, ◌^◌, ◌<◌, ◌≤◌, ◌++◌, List, ℕ, length, take, IfOk, OnOk, OnErr};
-ghost use Rattle.hs_disk.specs.Cause.{HasCause};
+ghost use Rattle.fault_count.specs.Cause.{HasCause};
 ghost use Rattle.hs_disk.specs.Disk.{written, Torn, Cut, Fills, Follows, AddsNone, Only, Elapses};
 
 /// A call of the disk failed, and its count of faults rose.

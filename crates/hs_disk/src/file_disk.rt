@@ -1,9 +1,10 @@
 //! A file as a disk. It is trusted: no clause says what a real file holds, so it tells nothing.
 ghost use Rattle.std.specs.Prelude.{◌≡◌, ◌+◌, ◌^◌, ◌<◌, ◌≤◌, ◌++◌, length, Ok, IfOk, OnOk};
-ghost use Rattle.hs_disk.specs.Cause.{HasCause};
+ghost use Rattle.fault_count.specs.Cause.{HasCause};
 
 use crate::length::{MAX_LEN, passes_end};
 use crate::{Disk, Failed};
+use fault_count::raised;
 use std::fs::File;
 use std::io;
 use std::io::ErrorKind;
@@ -53,7 +54,7 @@ impl FileDisk {
         match answer {
             Ok(value) => Ok(value),
             Err(_) => {
-                self.faults = self.faults.saturating_add(1);
+                self.faults = raised(self.faults);
                 Err(Failed)
             }
         }

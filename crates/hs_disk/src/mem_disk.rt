@@ -6,6 +6,7 @@ use crate::change::Change;
 use crate::length::{MAX_LEN, joined_len};
 use crate::saved::Saved;
 use crate::{Disk, Failed};
+use fault_count::raised;
 use std::alloc::{AllocError, Global};
 use std::marker::Model;
 
@@ -84,7 +85,7 @@ impl MemDisk {
         ensures fails { result ≡ is_to_fail self.now }
         ensures sound { IsSound self.now }
     {
-        let number = self.calls.saturating_add(1);
+        let number = raised(self.calls);
         self.short || self.fail_at.as_slice().contains(&number)
     }
 
@@ -98,8 +99,8 @@ impl MemDisk {
         if self.short || self.changes.push(change).is_err() {
             return self.run_short();
         }
-        self.calls = self.calls.saturating_add(1);
-        self.faults = self.faults.saturating_add(1);
+        self.calls = raised(self.calls);
+        self.faults = raised(self.faults);
         Failed
     }
 
@@ -110,8 +111,8 @@ impl MemDisk {
         ensures sound { IsSound self.new }
     {
         self.short = true;
-        self.calls = self.calls.saturating_add(1);
-        self.faults = self.faults.saturating_add(1);
+        self.calls = raised(self.calls);
+        self.faults = raised(self.faults);
         Failed
     }
 
@@ -126,7 +127,7 @@ impl MemDisk {
         self.changes.reserve(1)?;
         overwrite(&mut self.bytes, at as usize, saved.as_slice())?;
         self.changes.push_reserved(Change::Wrote(at, saved));
-        self.calls = self.calls.saturating_add(1);
+        self.calls = raised(self.calls);
         Ok(())
     }
 
@@ -138,7 +139,7 @@ impl MemDisk {
     {
         self.changes.push(Change::CutTo(len))?;
         self.bytes.truncate(len as usize);
-        self.calls = self.calls.saturating_add(1);
+        self.calls = raised(self.calls);
         Ok(())
     }
 
@@ -149,7 +150,7 @@ impl MemDisk {
         ensures sound { IsSound self.new }
     {
         self.changes.push(Change::Synced)?;
-        self.calls = self.calls.saturating_add(1);
+        self.calls = raised(self.calls);
         Ok(())
     }
 }
