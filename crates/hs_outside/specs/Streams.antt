@@ -1,6 +1,7 @@
 -- What is known of a source and of a sink, and what a call does to it.
-use Rattle.std.specs.Prelude.{◌≡◌, ℕ, ◌+◌, ◌-◌, ◌^◌, ◌<◌, ◌≤◌, min, Bool, true, List, [], ◌++◌, length, take, Option, IfSome, Result, Ok, Err}
+use Rattle.std.specs.Prelude.{◌≡◌, ℕ, ◌<◌, ◌≤◌, Bool, true, List, [], ◌++◌, length, take, Option, IfSome, Result, Ok, Err}
 use Rattle.std.specs.Io.KnownBytes.{append_known, prepend_known}
+pub use Rattle.fault_count.specs.Cause.{Rose}
 use Rattle.hs_outside.specs.declared.sources.Read.{Read}
 use Rattle.hs_outside.specs.declared.sources.Read.TheVariants as reads
 use Rattle.hs_outside.specs.declared.sinks.Wrote.{Wrote}
@@ -16,10 +17,6 @@ pub record Giver : Type 0 where
 pub record Taker : Type 0 where
   pub taken : Option (List ℕ)
   pub faults : ℕ
-
--- A count of 64 bits rose, or stands at its end.
-abbrev pub Rose : ℕ → ℕ → Type 0
-Rose before now = min (before + 1) (2 ^ 64 - 1) ≤ now
 
 -- The source gave these bytes, the first of what was left, where it tells.
 abbrev pub Gave : Giver → Giver → List ℕ → Type 0

@@ -1,10 +1,12 @@
 //! A sink into memory, some of whose calls fail.
-ghost use Rattle.std.specs.Prelude.{◌≡◌, ◌↔◌, ◌⊎◌, ◌<◌, ◌≤◌, [], Contains, IfOk, IsErr, IsTrue, length};
+ghost use Rattle.std.specs.Prelude.{ℕ, max, ◌≡◌, ◌↔◌, ◌⊎◌, ◌<◌, ◌≤◌, [], Contains, IfOk, IsErr, IsTrue, length};
 ghost use Rattle.hs_outside.specs.Streams.{WriteDoes, SendDoes};
-ghost use Rattle.hs_outside.specs.Memory.{known_sink, next_call, sink_of};
+ghost use Rattle.fault_count.specs.Cause.{next_count};
+ghost use Rattle.hs_outside.specs.Memory.{known_sink, sink_of};
 ghost use Rattle.hs_outside.specs.declared.sinks.Wrote.TheVariants as writes;
 
 use crate::sinks::{Failed, Sink, Wrote};
+use fault_count::raised;
 use std::alloc::{AllocError, Global};
 use std::marker::Model;
 
@@ -30,6 +32,7 @@ impl Model for MemSink {
       faults = s.faults;
       calls = s.calls;
       fail_at = s.fail_at.items;
+      most = s.most;
       is_short = s.is_short;
     } };
 
@@ -53,7 +56,7 @@ impl MemSink {
 
     /// The same sink, which takes at most so many bytes a write, and at least one.
     pub fn in_pieces(self, most: usize) -> MemSink
-        ensures { result ≡ self }
+        ensures { result ≡ record self { most = max most 1 } }
     {
         let MemSink {
             bytes,
@@ -91,10 +94,10 @@ impl MemSink {
 impl MemSink {
     /// Counts a call, and says whether it is to fail.
     fn fails(&mut self) -> bool
-        ensures named { IsTrue result ↔ (Contains self.old.fail_at (next_call self.old.calls) ⊎ IsTrue self.old.is_short) }
-        ensures counted { self.new ≡ record self.old { calls = next_call self.old.calls } }
+        ensures named { IsTrue result ↔ (Contains self.old.fail_at (next_count self.old.calls) ⊎ IsTrue self.old.is_short) }
+        ensures counted { self.new ≡ record self.old { calls = next_count self.old.calls } }
     {
-        self.calls = self.calls.saturating_add(1);
+        self.calls = raised(self.calls);
         self.is_short || self.fail_at.contains(&self.calls)
     }
 }
@@ -111,18 +114,19 @@ impl Sink for MemSink {
         ensures takes { WriteDoes result (known_sink self.old) (known_sink self.new) bytes.now }
         ensures later { self.old.faults ≤ self.new.faults }
         ensures fails { (result ≡ writes.Failed)
-            ↔ (Contains self.old.fail_at (next_call self.old.calls) ⊎ IsTrue self.new.is_short) }
-        ensures calls { self.new.calls ≡ next_call self.old.calls }
-        ensures fail_at { self.new.fail_at ≡ self.old.fail_at }
+            ↔ (Contains self.old.fail_at (next_count self.old.calls) ⊎ IsTrue self.new.is_short) }
+        ensures calls { self.new.calls ≡ next_count self.old.calls }
+        ensures pieces { (count : ℕ) → result ≡ writes.Took count → count ≤ self.old.most }
+        ensures kept { (self.new.fail_at ≡ self.old.fail_at) × (self.new.most ≡ self.old.most) }
     {
         if self.fails() {
-            self.faults = self.faults.saturating_add(1);
+            self.faults = raised(self.faults);
             return Wrote::Failed;
         }
         let count = bytes.len().min(self.most);
         if self.bytes.extend_from_slice(&bytes[..count]).is_err() {
             self.is_short = true;
-            self.faults = self.faults.saturating_add(1);
+            self.faults = raised(self.faults);
             return Wrote::Failed;
         }
         Wrote::Took(count)
@@ -132,12 +136,12 @@ impl Sink for MemSink {
         ensures sends { SendDoes result (known_sink self.old) (known_sink self.new) [] }
         ensures later { self.old.faults ≤ self.new.faults }
         ensures fails { IsErr result
-            ↔ (Contains self.old.fail_at (next_call self.old.calls) ⊎ IsTrue self.new.is_short) }
-        ensures calls { self.new.calls ≡ next_call self.old.calls }
-        ensures fail_at { self.new.fail_at ≡ self.old.fail_at }
+            ↔ (Contains self.old.fail_at (next_count self.old.calls) ⊎ IsTrue self.new.is_short) }
+        ensures calls { self.new.calls ≡ next_count self.old.calls }
+        ensures kept { (self.new.fail_at ≡ self.old.fail_at) × (self.new.most ≡ self.old.most) }
     {
         if self.fails() {
-            self.faults = self.faults.saturating_add(1);
+            self.faults = raised(self.faults);
             return Err(Failed);
         }
         Ok(())

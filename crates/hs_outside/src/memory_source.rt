@@ -1,10 +1,12 @@
 //! A source over bytes in memory, some of whose reads fail.
-ghost use Rattle.std.specs.Prelude.{◌≡◌, ◌↔◌, ◌<◌, ◌≤◌, Contains, IfOk, length};
+ghost use Rattle.std.specs.Prelude.{ℕ, max, ◌≡◌, ◌↔◌, ◌<◌, ◌≤◌, Contains, IfOk, length};
 ghost use Rattle.hs_outside.specs.Streams.{ReadDoes};
-ghost use Rattle.hs_outside.specs.Memory.{known_source, next_call, source_of};
+ghost use Rattle.fault_count.specs.Cause.{next_count};
+ghost use Rattle.hs_outside.specs.Memory.{known_source, source_of};
 ghost use Rattle.hs_outside.specs.declared.sources.Read.TheVariants as reads;
 
 use crate::sources::{Read, Source};
+use fault_count::raised;
 use std::alloc::{AllocError, Global};
 use std::marker::Model;
 
@@ -32,6 +34,7 @@ impl Model for MemSource {
       faults = s.faults;
       calls = s.calls;
       fail_at = s.fail_at.items;
+      most = s.most;
     } };
 
     ghost invariant = { λ s. (s.place ≤ length s.bytes.items) × (0 < s.most) };
@@ -55,7 +58,7 @@ impl MemSource {
 
     /// The same source, which gives at most so many bytes a read, and at least one.
     pub fn in_pieces(self, most: usize) -> MemSource
-        ensures { result ≡ self }
+        ensures { result ≡ record self { most = max most 1 } }
     {
         let MemSource {
             bytes,
@@ -93,13 +96,14 @@ impl Source for MemSource {
         requires { 0 < length buffer.old }
         ensures gives { ReadDoes result (known_source self.old) (known_source self.new) buffer.new }
         ensures later { self.old.faults ≤ self.new.faults }
-        ensures fails { (result ≡ reads.Failed) ↔ Contains self.old.fail_at (next_call self.old.calls) }
-        ensures calls { self.new.calls ≡ next_call self.old.calls }
-        ensures fail_at { self.new.fail_at ≡ self.old.fail_at }
+        ensures fails { (result ≡ reads.Failed) ↔ Contains self.old.fail_at (next_count self.old.calls) }
+        ensures calls { self.new.calls ≡ next_count self.old.calls }
+        ensures pieces { (count : ℕ) → result ≡ reads.Got count → count ≤ self.old.most }
+        ensures kept { (self.new.fail_at ≡ self.old.fail_at) × (self.new.most ≡ self.old.most) }
     {
-        self.calls = self.calls.saturating_add(1);
+        self.calls = raised(self.calls);
         if self.fail_at.contains(&self.calls) {
-            self.faults = self.faults.saturating_add(1);
+            self.faults = raised(self.faults);
             return Read::Failed;
         }
         let left = self.bytes.len() - self.place;

@@ -3,6 +3,7 @@ ghost use Rattle.std.specs.Prelude.{◌≡◌, None, false};
 
 use crate::sinks::{Failed, Sink, Wrote};
 use crate::sources::{Read, Source};
+use fault_count::raised;
 use std::io;
 
 /// Reads from any reader. It tells no bytes.
@@ -59,7 +60,7 @@ impl<R: io::Read> Source for StreamSource<R> {
             }
             Ok(count) => Read::Got(count),
             Err(_) => {
-                self.faults = self.faults.saturating_add(1);
+                self.faults = raised(self.faults);
                 Read::Failed
             }
         }
@@ -78,7 +79,7 @@ impl<W: io::Write> Sink for StreamSink<W> {
         match self.writer.write(bytes) {
             Ok(count) if count > 0 => Wrote::Took(count),
             _ => {
-                self.faults = self.faults.saturating_add(1);
+                self.faults = raised(self.faults);
                 Wrote::Failed
             }
         }
@@ -86,7 +87,7 @@ impl<W: io::Write> Sink for StreamSink<W> {
 
     fn flush(&mut self) -> Result<(), Failed> {
         if self.writer.flush().is_err() {
-            self.faults = self.faults.saturating_add(1);
+            self.faults = raised(self.faults);
             return Err(Failed);
         }
         Ok(())

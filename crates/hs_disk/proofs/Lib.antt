@@ -1,0 +1,4 @@
+mod HeldLemmas
+mod ImageLemmas
+mod WorkedExamples
+mod WriteLemmas

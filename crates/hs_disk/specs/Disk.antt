@@ -1,0 +1,49 @@
+-- What the calls of a disk do to the bytes that it shows, and to the images that a crash may leave.
+use Rattle.std.specs.Prelude.{◌≡◌, ◌⊎◌, ℕ, ◌+◌, ◌-◌, ◌≤◌, min, max, List, ◌++◌, length, take, drop}
+
+-- these bytes written over the old ones at this place, and past their end
+abbrev pub written : ℕ → List ℕ → List ℕ → List ℕ
+written at bytes old = take at old ++ bytes ++ drop (at + length bytes) old
+
+-- A write of n bytes that was cut short: any bytes in its range, of which the part past the old end may be missing. All
+-- else is as it was.
+pub record Torn (at n : ℕ) (old new : List ℕ) : Type 0 where
+  pub before : take at new ≡ take at old
+  pub after : drop (at + n) new ≡ drop (at + n) old
+  pub no_shorter : length old ≤ length new
+  pub no_longer : length new ≤ max (length old) (at + n)
+
+-- after a cut, the old length or the new one
+abbrev pub Cut : ℕ → List ℕ → List ℕ → Type 0
+Cut n old new = (new ≡ old) ⊎ (new ≡ take n old)
+
+-- `count` bytes of the disk's, from this place on, stand at the front of the buffer, which is full except at the disk's end
+pub record Fills (disk : List ℕ) (at count : ℕ) (old new : List ℕ) : Type 0 where
+  pub full : count ≡ min (length old) (length disk - at)
+  pub bytes : new ≡ take count (drop at disk) ++ drop count old
+
+-- each image of now is an earlier image after this step
+abbrev pub Follows : (List ℕ → List ℕ → Type 0) → (List ℕ → Type 0) → (List ℕ → Type 0) → Type 0
+Follows step old new = (image : List ℕ) → new image → (earlier : List ℕ) × old earlier × step earlier image
+
+-- no image is there that was not there before
+abbrev pub AddsNone : (List ℕ → Type 0) → (List ℕ → Type 0) → Type 0
+AddsNone old new = (image : List ℕ) → new image → old image
+
+-- a crash leaves these bytes and nothing else
+abbrev pub Only : List ℕ → (List ℕ → Type 0) → Type 0
+Only bytes images = (image : List ℕ) → images image → image ≡ bytes
+
+-- Time goes on: a crash at some moment since t may have left what it may have left before, or what it may leave now.
+pub record Elapses (before now : ℕ) (past since : ℕ → List ℕ → Type 0) (may_leave : List ℕ → Type 0) : Type 0 where
+  pub later : before ≤ now
+  pub nothing_else : (t : ℕ) (image : List ℕ) → t ≤ before → since t image → past t image ⊎ may_leave image
+  pub keeps : (t : ℕ) (image : List ℕ) → t ≤ before → past t image → since t image
+
+-- A crash at any moment since the old state leaves an image that has P.
+pub record LeavesOnly {D : Type 0} (moment : D → ℕ) (left_since : D → ℕ → List ℕ → Type 0) (old new : D)
+    (P : List ℕ → Type 0) : Type 0 where
+  pub later : moment old ≤ moment new
+  pub each : (image : List ℕ) → left_since new (moment old) image → P image
+  -- for a run that began earlier
+  pub before : (t : ℕ) (image : List ℕ) → t ≤ moment old → left_since new t image → left_since old t image ⊎ P image

@@ -1,0 +1,10 @@
+mod GateLemmas
+mod HeaderLemmas
+mod ImageLemmas
+mod MakeLemmas
+mod Moments
+mod OpenLemmas
+mod ReadingLaws
+mod RecordLemmas
+mod StandsLemmas
+mod WorkedExamples

@@ -1,0 +1,48 @@
+use Rattle.std.proofs.Common.{◌∷◌, [], ◌++◌, ◌+◌, length, List, ℕ, ap, subst, ◌∙◌}
+use Rattle.std.proofs.lemmas.Result.{IfOk-from_err}
+use Rattle.hs_disk.specs.Disk.{Torn, written}
+use Rattle.redo_journal.specs.Image.{ClosedAfter}
+use Rattle.redo_journal.specs.Gates.{InDoubtAfter}
+use Rattle.redo_journal.proofs.GateLemmas.{torn_behind, written_behind}
+use Rattle.redo_journal.proofs.Moments.{on_err, first_step, next_kept, synced}
+use Rattle.redo_journal.proofs.gates.write_behind.Goals as goal
+
+pub returns-in_err-write_pieces-clause-passes : goal.returns-in_err-write_pieces-clause-passes
+returns-in_err-write_pieces-clause-passes g c tells front place was =
+    let disk = g.D.Disk in
+    let n = length (c.args.head.now ++ c.args.body.now ++ 0 ∷ []) in
+    let into = λ (earlier image : List ℕ) (is : ClosedAfter front earlier) (torn : Torn (c.args.gate + 1) n earlier image). torn_behind front n earlier image is (subst (λ (at : ℕ). Torn (at + 1) n earlier image) place torn) in
+    let wrote = first_step disk.seen disk.may_leave disk.moment disk.left_since (Torn (c.args.gate + 1) n) (ClosedAfter front) c.args.disk.now c.write_pieces.new.self into was (λ image left. g.met.D.Disk.only_now c.args.disk.now image tells left) (c.write_pieces.ensures.crash tells) (c.write_pieces.ensures.reading tells) (c.write_pieces.ensures.time tells) in
+    record {
+      moments = wrote.0;
+      ok = IfOk-from_err c.from_residual.result _ c.from_residual.ensures.0;
+      err = on_err c.from_residual.result wrote.1;
+    }
+
+pub returns-in_err-sync-clause-passes : goal.returns-in_err-sync-clause-passes
+returns-in_err-sync-clause-passes g c tells front place was =
+    let disk = g.D.Disk in
+    let n = length (c.args.head.now ++ c.args.body.now ++ 0 ∷ []) in
+    let into = λ (earlier image : List ℕ) (is : ClosedAfter front earlier) (torn : Torn (c.args.gate + 1) n earlier image). torn_behind front n earlier image is (subst (λ (at : ℕ). Torn (at + 1) n earlier image) place torn) in
+    let wrote = first_step disk.seen disk.may_leave disk.moment disk.left_since (Torn (c.args.gate + 1) n) (ClosedAfter front) c.args.disk.now c.write_pieces.new.self into was (λ image left. g.met.D.Disk.only_now c.args.disk.now image tells left) (c.write_pieces.ensures.crash tells) (c.write_pieces.ensures.reading tells) (c.write_pieces.ensures.time tells) in
+    let kept = next_kept disk.seen disk.may_leave disk.moment disk.left_since (ClosedAfter front) c.args.disk.now c.write_pieces.new.self c.sync.new.self wrote.0 wrote.1 (c.sync.ensures.crash tells) (c.sync.ensures.reading tells) (c.sync.ensures.time tells) in
+    record {
+      moments = kept.0;
+      ok = IfOk-from_err c.from_residual-in_err-sync.result _ c.from_residual-in_err-sync.ensures.0;
+      err = on_err c.from_residual-in_err-sync.result kept.1;
+    }
+
+pub returns-clause-passes : goal.returns-clause-passes
+returns-clause-passes g c tells front place was =
+    let disk = g.D.Disk in
+    let n = length (c.args.head.now ++ c.args.body.now ++ 0 ∷ []) in
+    let into = λ (earlier image : List ℕ) (is : ClosedAfter front earlier) (torn : Torn (c.args.gate + 1) n earlier image). torn_behind front n earlier image is (subst (λ (at : ℕ). Torn (at + 1) n earlier image) place torn) in
+    let wrote = first_step disk.seen disk.may_leave disk.moment disk.left_since (Torn (c.args.gate + 1) n) (ClosedAfter front) c.args.disk.now c.write_pieces.new.self into was (λ image left. g.met.D.Disk.only_now c.args.disk.now image tells left) (c.write_pieces.ensures.crash tells) (c.write_pieces.ensures.reading tells) (c.write_pieces.ensures.time tells) in
+    let kept = next_kept disk.seen disk.may_leave disk.moment disk.left_since (ClosedAfter front) c.args.disk.now c.write_pieces.new.self c.sync.new.self wrote.0 wrote.1 (c.sync.ensures.crash tells) (c.sync.ensures.reading tells) (c.sync.ensures.time tells) in
+    let contents = c.args.head.now ++ c.args.body.now in
+    let behind : InDoubtAfter front contents (disk.seen c.write_pieces.new.self) = written_behind front contents (disk.seen c.args.disk.now) (disk.seen c.write_pieces.new.self) was.reads (c.in_ok-write_pieces.ensures.written tells ∙ ap (λ (at : ℕ). written (at + 1) (contents ++ 0 ∷ []) (disk.seen c.args.disk.now)) place) in
+    record {
+      moments = kept.0;
+      ok = synced (InDoubtAfter front contents) (disk.seen c.write_pieces.new.self) (disk.seen c.sync.new.self) (disk.may_leave c.sync.new.self) behind (c.sync.ensures.seen tells) (c.in_ok-sync.ensures.durable tells);
+      err = tt;
+    }

@@ -1,0 +1,47 @@
+//! The making of a new journal.
+ghost use Rattle.std.specs.Prelude.{◌≡◌, ◌^◌, ◌<◌, ◌++◌, [], length, IfOk};
+ghost use Rattle.std.specs.Int.{w32, to_be_bytes};
+ghost use Rattle.hs_disk.specs.Cause.{HasCause};
+ghost use Rattle.hs_disk.specs.Disk.{LeavesOnly};
+ghost use Rattle.redo_journal.specs.Image.{ClosedAfter, IsFresh, StandsFor, front, mark};
+ghost use Rattle.redo_journal.specs.Gates.{Throughout, Passes};
+
+use crate::gates::{set_gate, write_behind};
+use crate::refusal::DiskFault;
+use hs_disk::Disk;
+
+// Leaves one closed gate, and nothing else, on a disk that nothing was written to.
+fn blank<D: Disk>(disk: &mut D) -> Result<(), DiskFault>
+    ensures passes { D.tells → Throughout IsFresh (D.seen disk.old) (D.may_leave disk.old) → Passes D.seen D.may_leave D.moment D.left_since disk.old disk.new IsFresh (ClosedAfter []) IsFresh result }
+    ensures cause { HasCause (D.fault_count disk.old) (D.fault_count disk.new) result }
+{
+    disk.cut(0)?;
+    disk.sync()?;
+    disk.write_at(0, &[0])?;
+    disk.sync()?;
+    Ok(())
+}
+
+// The mark, and a length in four bytes.
+fn marked(len: u32) -> [u8; 12]
+    ensures { result ≡ mark ++ to_be_bytes w32 len }
+{
+    let [a, b, c, d] = len.to_be_bytes();
+    [b'H', b'S', b'J', b'R', b'N', b'L', b'0', b'1', a, b, c, d]
+}
+
+// Makes a journal without records, and hands out the place of its last gate.
+pub(crate) fn make<D: Disk>(disk: &mut D, text: &[u8]) -> Result<u64, DiskFault>
+    requires fits { length text.now < 2 ^ 32 }
+    requires fresh { D.tells → Throughout IsFresh (D.seen disk.old) (D.may_leave disk.old) }
+    ensures moments { D.tells → LeavesOnly D.moment D.left_since disk.old disk.new (StandsFor text.now []) }
+    ensures ok { D.tells → IfOk result (λ gate. Throughout (ClosedAfter (front text.now [])) (D.seen disk.new) (D.may_leave disk.new)) }
+    ensures place { IfOk result (λ gate. (gate ≡ length (front text.now [])) × (gate < 2 ^ 63)) }
+    ensures cause { HasCause (D.fault_count disk.old) (D.fault_count disk.new) result }
+{
+    blank(disk)?;
+    let head = marked(text.len() as u32);
+    write_behind(disk, 0, &head, text)?;
+    set_gate(disk, 0, 1)?;
+    Ok(13 + text.len() as u64)
+}

@@ -1,0 +1,75 @@
+//! The opening of a journal.
+ghost use Rattle.std.specs.Prelude.{◌≡◌, ◌≢◌, ◌^◌, ◌<◌, ◌≤◌, ℕ, List, [], false, length, slice_index, IfOk, IfErr, OnOk, IsErrOf};
+ghost use Rattle.hs_disk.specs.Cause.{Rose};
+ghost use Rattle.hs_disk.specs.Disk.{LeavesOnly};
+ghost use Rattle.redo_journal.specs.Image.{Journals, StandsFor, front};
+ghost use Rattle.redo_journal.specs.Gates.{Throughout};
+ghost use Rattle.redo_journal.specs.Journal.{StandsOn, IsJournalOn};
+ghost use Rattle.redo_journal.specs.Opening.{Opens, RefusesImage, RefusesLoad, RefusesReading};
+ghost use Rattle.redo_journal.specs.Records.{payloads_of, placed};
+
+use crate::image::{is_fresh, read_header, read_records};
+use crate::journal::Journal;
+use crate::make::make;
+use crate::record::Record;
+use crate::refusal::Refusal;
+use hs_disk::Disk;
+use std::alloc::Global;
+
+/// Reads the journal on a disk, or makes a new one where nothing was written yet. It begins with a sync.
+pub fn open_on<D: Disk>(
+    alloc: Global,
+    disk: &mut D,
+    schema_text: &[u8],
+) -> Result<(Journal, Vec<Record>), Refusal>
+    requires { length schema_text.now < 2 ^ 32 }
+
+    // What a read gives stands for the payloads that are handed out, and the journal stands behind them.
+    ensures opened { D.tells → IfOk result (λ opened. StandsFor schema_text.now (payloads_of opened.1.items) (D.seen disk.old) × StandsOn schema_text.now (payloads_of opened.1.items) [] opened.0 (D.seen disk.new) (D.may_leave disk.new)) }
+    ensures stands { D.tells → IfOk result (λ opened. IsJournalOn opened.0 (D.seen disk.new) (D.may_leave disk.new)) }
+    ensures places { IfOk result (λ opened. (opened.1.items ≡ placed (length (front schema_text.now [])) (payloads_of opened.1.items)) × (opened.0.records ≡ length opened.1.items) × (opened.0.due ≡ false)) }
+    ensures refused { D.tells → IfErr result (RefusesImage schema_text.now (D.seen disk.old)) }
+
+    // Whatever a crash may leave before the call stands for, it stands for at each moment of it.
+    ensures any_moment { D.tells → (payloads : List (List ℕ)) → Throughout (StandsFor schema_text.now payloads) (D.seen disk.old) (D.may_leave disk.old) → LeavesOnly D.moment D.left_since disk.old disk.new (StandsFor schema_text.now payloads) }
+
+    ensures later { D.fault_count disk.old ≤ D.fault_count disk.new }
+    ensures fault { IsErrOf result Refusal.DiskFault → Rose (D.fault_count disk.old) (D.fault_count disk.new) }
+{
+    let image = load(alloc, disk)?;
+    if is_fresh(&image) {
+        let gate = make(disk, schema_text)?;
+        return Ok((Journal::at(gate, 0), Vec::new(alloc)));
+    }
+    read(alloc, &image, schema_text)
+}
+
+// Syncs the disk, and reads all of it.
+fn load<D: Disk>(alloc: Global, disk: &mut D) -> Result<Vec<u8>, Refusal>
+    ensures bytes { D.tells → IfOk result (λ image. image.items ≡ D.seen disk.old) }
+    ensures bound { IfOk result (λ image. length image.items < 2 ^ 63) }
+    ensures only { D.tells → OnOk result (Throughout (λ image. image ≡ D.seen disk.old) (D.seen disk.new) (D.may_leave disk.new)) }
+    ensures moments { D.tells → LeavesOnly D.moment D.left_since disk.old disk.new (D.may_leave disk.old) }
+    ensures err { IfErr result RefusesLoad }
+    ensures later { D.fault_count disk.old ≤ D.fault_count disk.new }
+    ensures fault { IsErrOf result Refusal.DiskFault → Rose (D.fault_count disk.old) (D.fault_count disk.new) }
+{
+    disk.sync()?;
+    let len = disk.len()?;
+    let mut image = vec![in alloc; 0; len as usize]?;
+    let count = disk.read(0, &mut image)?;
+    image.truncate(count);
+    Ok(image)
+}
+
+// The journal and the records of an image that something was written to.
+fn read(alloc: Global, image: &[u8], text: &[u8]) -> Result<(Journal, Vec<Record>), Refusal>
+    requires begun { (slice_index image.now 0 ≡ 1) × (2 ≤ length image.now) }
+    requires bound { length image.now < 2 ^ 63 }
+    ensures ok { IfOk result (λ opened. Opens text.now image.now opened.0 opened.1.items) }
+    ensures err { IfErr result (RefusesReading text.now image.now) }
+{
+    let first = read_header(image, text)?;
+    let (records, gate) = read_records(alloc, image, first)?;
+    Ok((Journal::at(gate as u64, records.len() as u64), records))
+}
