@@ -44,7 +44,7 @@ pub fn passes(row: &Row, filters: &[FilterSpec]) -> Step
     let cells = row.as_slice();
     for filter in filters {
         if !holds(cells, filter) {
-            return if filter.stop { Step::Stop } else { Step::Skip };
+            return failed(filter);
         }
     }
     Step::Keep
