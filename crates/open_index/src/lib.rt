@@ -1,13 +1,27 @@
-// A library with one function.
+//! Reading request lines: from the tokens of a line to a request, with every refusal in its order.
+//!
+//! | Line | What it asks for |
+//! |---|---|
+//! | `P <indexid> <db> <table> <index> <columns> [<fcolumns>]` | an open id for an index |
+//! | `A <atyp> <akey>` | leave to send other lines |
+//! | `<indexid> <op> <vlen> <v1>..<vn> [LIM] [IN] [FILTER ..] [MOD]` | a find, or a change of the rows found |
+//! | `<indexid> + <vlen> <v1>..<vn>` | an insert |
+//!
+//! `resolve` reads one line and answers the request, or the code of its first refusal from left to right; a line that is
+//! refused leaves the connection's open ids and its auth as they were. What a line means depends on the schema, the port,
+//! its secret and the connection's earlier lines, and never on the tables' rows. Carrying requests out is left to others.
 #![tactic(auto)]
 
-ghost use Rattle.std.specs.Prelude.{◌≡◌};
-ghost use Rattle.open_index.specs.Echo.{echo_of};
+mod codes;
+mod faults;
+mod handles;
+mod laws;
+mod meanings;
+mod requests;
+#[cfg(test)]
+mod tests;
 
-// The `ensures` clause is the contract: what `echo` returns is `echo_of` of its argument, a definition
-// in `specs/Echo.antt`, which a caller's clause can cite too.
-pub fn echo(x: usize) -> usize
-    ensures { result ≡ echo_of x }
-{
-    x
-}
+pub use codes::Code;
+pub use handles::{Handle, Handles, OpenColumn, handles_new};
+pub use laws::{example_refusals, example_requests, example_states};
+pub use requests::{Auth, InsertSpec, Request, Resolved};

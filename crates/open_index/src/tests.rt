@@ -1,0 +1,2 @@
+//! Lines and what becomes of them.
+use super::*;
