@@ -1,6 +1,6 @@
 -- Opening an index: `P <indexid> <db> <table> <index> <columns> [<fcolumns>]`.
-use Rattle.std.specs.Prelude.{ℕ, ◌+◌, List, [], ◌∷◌, ◌++◌, length, map, slice_get, Option, Some, None, option_map, Result, Ok, Err, Bool, true, false, ◌==◌, ◌&&◌, not, nat_eq, nat_lt, nat_le, is_some, if◌then◌else◌}
-use Rattle.std.specs.List.{slice_split, list_any}
+use Rattle.std.specs.Prelude.{ℕ, ◌+◌, List, [], ◌∷◌, ◌++◌, length, map, slice_get, Option, Some, None, option_map, Result, Ok, Err, Bool, true, false, ◌==◌, ◌<◌, ◌^◌, ◌&&◌, ◌||◌, not, nat_eq, nat_lt, nat_le, is_some, if◌then◌else◌}
+use Rattle.std.specs.List.{slice_split, list_any, All}
 use Rattle.std.specs.Ordering.{nat_cmp}
 use Rattle.std.specs.BTreeMap.{is_at, insert_entry}
 use Rattle.std.specs.Map.{lookup}
@@ -74,14 +74,23 @@ part_of columns number = record { number = number; kind = kind_of (slice_get col
   kind_of None = kinds.Int
   kind_of (Some c) = c.kind
 
--- What an id will stand for: the index by its names, then the columns, then those for filters.
-unfoldable pub handle_of : Schema → Token → Token → Token → Token → Token → Result Handle Code
-handle_of schema db name index columns filter_columns =
+-- The columns for filters. Their list may be left out, and then there are none.
+unfoldable pub filter_columns_of : List Column → List Token → Result (List OpenColumn) Code
+filter_columns_of columns [] = Ok []
+filter_columns_of columns (t ∷ ts) = columns_of columns t
+
+-- The lists behind an index's name: the columns, then those for filters.
+unfoldable pub lists_of : List Column → List Token → Result (List OpenColumn × List OpenColumn) Code
+lists_of columns [] = Err refused.Args
+lists_of columns (t ∷ ts) = columns_of columns t >>= λ cs. filter_columns_of columns ts >>= λ fs. Ok (cs, fs)
+
+-- What an id will stand for: the index by its names, and the columns of its lists.
+unfoldable pub handle_of : Schema → Token → Token → Token → List Token → Result Handle Code
+handle_of schema db name index lists =
     or_refuse refused.Table (table_named 0 schema.tables db name) >>= λ t.
     or_refuse refused.Index (index_named 0 (t.1).indexes index) >>= λ i.
-    columns_of (t.1).columns columns >>= λ cs.
-    columns_of (t.1).columns filter_columns >>= λ fs.
-    Ok (record { table = t.0; index = i.0; parts = map (part_of (t.1).columns) (i.1).parts; columns = cs; filter_columns = fs })
+    lists_of (t.1).columns lists >>= λ cs.
+    Ok (record { table = t.0; index = i.0; parts = map (part_of (t.1).columns) (i.1).parts; columns = cs.0; filter_columns = cs.1 })
 
 -- At most so many ids are open at a time.
 abbrev pub most_open : ℕ
@@ -89,17 +98,25 @@ most_open = 1024
 
 -- Whether one more id may be opened, or this one once more.
 abbrev pub has_room : List (ℕ × Handle) → ℕ → Bool
-has_room handles id = if nat_lt (length handles) most_open then true else is_some (stands_for handles id)
+has_room handles id = nat_lt (length handles) most_open || is_some (stands_for handles id)
 
--- The id and what it will stand for.
-unfoldable pub opening_of : Schema → List (ℕ × Handle) → Token → Result Handle Code → Result (ℕ × Handle) Code
-opening_of schema handles id handle =
-    or_refuse refused.Args (u32_at id) >>= λ n.
-    handle >>= λ h.
-    if has_room handles n then Ok (n, h) else Err refused.Ids
+-- The id and what it will stand for, where there is room.
+abbrev pub with_room : List (ℕ × Handle) → ℕ → Handle → Result (ℕ × Handle) Code
+with_room handles id handle = if has_room handles id then Ok (id, handle) else Err refused.Ids
 
--- A line with another number of tokens is refused as `args`. Without filter columns their list is empty.
+-- `P` has five or six tokens behind it: the second list may be left out.
 unfoldable pub open_of : Schema → List (ℕ × Handle) → List Token → Result (ℕ × Handle) Code
-open_of schema handles (id ∷ db ∷ name ∷ index ∷ columns ∷ []) = opening_of schema handles id (handle_of schema db name index columns (Text []))
-open_of schema handles (id ∷ db ∷ name ∷ index ∷ columns ∷ fs ∷ []) = opening_of schema handles id (handle_of schema db name index columns fs)
+open_of schema handles (id ∷ db ∷ name ∷ index ∷ lists) =
+    if length lists == 1 || length lists == 2 then
+    (or_refuse refused.Args (u32_at id) >>= λ n. handle_of schema db name index lists >>= λ h. with_room handles n h)
+    else Err refused.Args
 open_of schema handles _ = Err refused.Args
+
+-- The columns and the indexes of a table have numbers of 32 bits, as those of every valid schema do.
+abbrev pub IsTableNumbered : TableDef → Type 0
+IsTableNumbered table = (length table.columns < 2 ^ 32) × (length table.indexes < 2 ^ 32)
+
+-- Tables, columns and indexes have numbers of 32 bits.
+pub record IsNumbered (schema : Schema) : Type 0 where
+  pub tables : length schema.tables < 2 ^ 32
+  pub each : All IsTableNumbered schema.tables

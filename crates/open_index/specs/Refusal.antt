@@ -18,7 +18,7 @@ or_refuse code (Some x) = Ok x
 -- A fault is the refusal of what was read; want of memory may come with any reading.
 abbrev pub Fails : {Y : Type 0} → Fault → Result Y Code → Type 0
 Fails (Refused code) read = read ≡ Err code
-Fails (NoMemory error) read = Unit {0}
+Fails NoMemory read = Unit {0}
 
 -- What a call answered, seen by view, is what the reading gives, unless memory ran out.
 abbrev pub Gives : {X Y : Type 0} → (X → Y) → Result X Fault → Result Y Code → Type 0

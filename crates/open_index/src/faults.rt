@@ -6,16 +6,27 @@ use std::alloc::{AllocError, AllocFailed};
 #[derive(Debug, Drop)]
 pub(crate) enum Fault {
     Refused(Code),
-    NoMemory(AllocError),
+    NoMemory,
 }
 
 impl From<AllocError> for Fault {
     ghost use Rattle.std.specs.Prelude.{◌≡◌};
     ghost use Rattle.open_index.specs.declared.faults.Fault.TheVariants.{NoMemory};
 
-    ghost from_gives = { λ error fault. fault ≡ NoMemory error };
+    ghost from_gives = { λ _ fault. fault ≡ NoMemory };
 
-    fn from(error: AllocError) -> Fault {
-        Fault::NoMemory(error)
+    fn from(_error: AllocError) -> Fault {
+        Fault::NoMemory
+    }
+}
+
+impl<T: Drop> From<AllocFailed<T>> for Fault {
+    ghost use Rattle.std.specs.Prelude.{◌≡◌};
+    ghost use Rattle.open_index.specs.declared.faults.Fault.TheVariants.{NoMemory};
+
+    ghost from_gives = { λ _ fault. fault ≡ NoMemory };
+
+    fn from(_error: AllocFailed<T>) -> Fault {
+        Fault::NoMemory
     }
 }

@@ -12,14 +12,19 @@
 //! its secret and the connection's earlier lines, and never on the tables' rows. Carrying requests out is left to others.
 #![tactic(auto)]
 
+mod changes;
 mod codes;
 mod faults;
 mod handles;
 mod laws;
 mod meanings;
+mod operations;
+mod parts;
 mod requests;
 #[cfg(test)]
 mod tests;
+mod tokens;
+mod values;
 
 pub use codes::Code;
 pub use handles::{Handle, Handles, OpenColumn, handles_new};
