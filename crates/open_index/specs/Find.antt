@@ -107,14 +107,20 @@ unfoldable pub filter_at : List OpenColumn → Bool → List Token → Result (F
 filter_at columns stop (op ∷ place ∷ token ∷ ts) = filter_of columns stop op place token >>= λ f. Ok (f, ts)
 filter_at columns stop _ = Err refused.Args
 
+-- The next filter and what follows it, where the next token begins one.
+unfoldable pub next_filter : List OpenColumn → List Token → Result (Option (FilterSpec × List Token)) Code
+next_filter columns [] = Ok None
+next_filter columns (t ∷ ts) = if is_filter t then (filter_at columns (is_word (codes "W") t) ts >>= λ f. Ok (Some f)) else Ok None
+
+-- A filter, and those that are read behind it. Without one the tokens are left.
+abbrev pub then_filters : (List Token → Result (List FilterSpec × List Token) Code) → List Token → Option (FilterSpec × List Token) → Result (List FilterSpec × List Token) Code
+then_filters more ts None = Ok ([], ts)
+then_filters more ts (Some f) = more f.1 >>= λ fs. Ok (f.0 ∷ fs.0, fs.1)
+
 -- Filters, as long as the next token begins one, but no more than so many.
 unfoldable pub filters_at : ℕ → List OpenColumn → List Token → Result (List FilterSpec × List Token) Code
 filters_at zero columns ts = Ok ([], ts)
-filters_at (suc n) columns [] = Ok ([], [])
-filters_at (suc n) columns (t ∷ ts) =
-    if is_filter t then
-    (filter_at columns (is_word (codes "W") t) ts >>= λ f. filters_at n columns f.1 >>= λ fs. Ok (f.0 ∷ fs.0, fs.1))
-    else Ok ([], t ∷ ts)
+filters_at (suc n) columns ts = next_filter columns ts >>= then_filters (filters_at n columns) ts
 
 -- The words of a change, and whether it shows the rows.
 abbrev pub mod_word : Token → Option (ModKind × Bool)

@@ -1,7 +1,7 @@
 //! The parts of a find, from left to right: the key, LIM, IN and the filters.
 ghost use Rattle.std.specs.Prelude.{◌≡◌, ◌≤◌, length, IfOk, option_map};
 ghost use Rattle.open_index.specs.Refusal.{Gives};
-ghost use Rattle.open_index.specs.Find.{count_at, key_at, limit_at, part_at, list_len_at, list_at, within_at, is_filter, filter_op, filter_of, filter_at, filters_at};
+ghost use Rattle.open_index.specs.Find.{count_at, key_at, limit_at, part_at, list_len_at, list_at, within_at, is_filter, filter_op, filter_of, filter_at, next_filter, filters_at};
 
 use crate::codes::Code;
 use crate::faults::Fault;
@@ -201,8 +201,26 @@ fn filter_at<'t>(
     Ok((filter, rest))
 }
 
+/// The next filter and what follows it, where the next token begins one.
+#[tactic(auto, unfolding(crate::specs::Find::next_filter))]
+fn next_filter<'t>(
+    alloc: Global,
+    columns: &[OpenColumn],
+    tokens: &'t [Token],
+) -> Result<Option<(FilterSpec, &'t [Token])>, Fault>
+    ensures { Gives (option_map (λ x. (x.0, x.1.now))) result (next_filter columns.now tokens.now) }
+{
+    let [token, rest @ ..] = tokens else {
+        return Ok(None);
+    };
+    if !is_filter(token) {
+        return Ok(None);
+    }
+    let found = filter_at(alloc, columns, is_word(token, b"W"), rest)?;
+    Ok(Some(found))
+}
+
 /// Filters, as long as the next token begins one, and what follows them.
-#[tactic(auto, unfolding(crate::specs::Find::filters_at))]
 pub(crate) fn filters_at<'t>(
     alloc: Global,
     columns: &[OpenColumn],
@@ -212,16 +230,13 @@ pub(crate) fn filters_at<'t>(
 {
     let mut filters = Vec::new(alloc);
     let mut rest = tokens;
-    for _count in 0..tokens.len() {
-        let [token, behind @ ..] = rest else {
+    // There are no more filters than tokens.
+    for _ in 0..tokens.len() {
+        let Some((filter, behind)) = next_filter(alloc, columns, rest)? else {
             break;
         };
-        if !is_filter(token) {
-            break;
-        }
-        let (filter, next) = filter_at(alloc, columns, is_word(token, b"W"), behind)?;
         filters.push(filter)?;
-        rest = next;
+        rest = behind;
     }
     Ok((List::of_vec(filters), rest))
 }
