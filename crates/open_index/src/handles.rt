@@ -7,6 +7,9 @@ use std::alloc::{AllocError, Global};
 use std::collections::BTreeMap;
 use std::marker::Model;
 
+/// At most so many ids are open on a connection at a time.
+pub const MOST_OPEN: usize = 1024;
+
 /// A column by its place in the table's list of columns, and what its values are.
 #[derive(Clone, Copy, Debug, PartialEq, Eq)]
 pub struct OpenColumn {

@@ -17,7 +17,9 @@ mod codes;
 mod faults;
 mod handles;
 mod laws;
+mod lines;
 mod meanings;
+mod opening;
 mod operations;
 mod parts;
 mod requests;
@@ -27,6 +29,7 @@ mod tokens;
 mod values;
 
 pub use codes::Code;
-pub use handles::{Handle, Handles, OpenColumn, handles_new};
+pub use handles::{Handle, Handles, MOST_OPEN, OpenColumn, handles_new};
 pub use laws::{example_refusals, example_requests, example_states};
+pub use lines::resolve;
 pub use requests::{Auth, InsertSpec, Request, Resolved};
