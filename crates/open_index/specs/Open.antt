@@ -52,10 +52,14 @@ abbrev pub names_of : List ℕ → List (List ℕ)
 names_of [] = []
 names_of (b ∷ bs) = slice_split (λ c. c == 44) (b ∷ bs)
 
+-- Whether the column with this number is in a list.
+abbrev pub is_listed : List OpenColumn → ℕ → Bool
+is_listed found number = list_any (λ (c : OpenColumn). c.number == number) found
+
 -- One more column, unless the table has none of this name or the list has it already.
 unfoldable pub column_onto : List Column → List OpenColumn → List ℕ → Result (List OpenColumn) Code
 column_onto columns found name = or_refuse refused.Column (column_named 0 columns name) >>= λ c.
-    if list_any (λ (f : OpenColumn). f.number == c.number) found then Err refused.Column else Ok (found ++ c ∷ [])
+    if is_listed found c.number then Err refused.Column else Ok (found ++ c ∷ [])
 
 -- The columns that were found, and those of the names behind them.
 unfoldable pub columns_onto : List Column → List OpenColumn → List (List ℕ) → Result (List OpenColumn) Code

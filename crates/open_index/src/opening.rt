@@ -2,7 +2,7 @@
 ghost use Rattle.std.specs.Prelude.{◌≡◌, ◌<◌, ◌^◌, length, map, IfOk, IfSome, option_map, ◌==◌};
 ghost use Rattle.std.specs.List.{All};
 ghost use Rattle.open_index.specs.Refusal.{Gives};
-ghost use Rattle.open_index.specs.Open.{IsNumbered, IsTableNumbered, table_named, index_named, column_named, names_of, column_onto, columns_onto, columns_of, filter_columns_of, lists_of, part_of, handle_of, has_room, open_of};
+ghost use Rattle.open_index.specs.Open.{IsNumbered, IsTableNumbered, table_named, index_named, column_named, names_of, is_listed, column_onto, columns_onto, columns_of, filter_columns_of, lists_of, part_of, handle_of, has_room, open_of};
 
 use crate::codes::Code;
 use crate::faults::Fault;
@@ -66,6 +66,13 @@ fn names_of(alloc: Global, text: &[u8]) -> Result<Vec<&[u8]>, AllocError>
     text.split(|byte| *byte == b',').collect(alloc)
 }
 
+/// Whether the column with this number is among those that were found.
+fn is_listed(found: &[OpenColumn], number: u32) -> bool
+    ensures { result ≡ is_listed found.now number }
+{
+    found.iter().any(|column| column.number == number)
+}
+
 /// Puts the column of this name behind those that were found.
 #[tactic(auto, unfolding(crate::specs::Open::column_onto))]
 fn column_onto(columns: &[Column], found: &mut Vec<OpenColumn>, name: &[u8]) -> Result<(), Fault>
@@ -75,10 +82,25 @@ fn column_onto(columns: &[Column], found: &mut Vec<OpenColumn>, name: &[u8]) -> 
     let Some(column) = column_named(columns, name) else {
         return Err(Fault::Refused(Code::Column));
     };
-    if found.iter().any(|other| other.number == column.number) {
+    if is_listed(found, column.number) {
         return Err(Fault::Refused(Code::Column));
     }
     found.push(column)?;
+    Ok(())
+}
+
+/// Puts the columns of these names behind those that were found.
+fn columns_onto(
+    columns: &[Column],
+    found: &mut Vec<OpenColumn>,
+    names: &[&[u8]],
+) -> Result<(), Fault>
+    requires { length columns.now < 2 ^ 32 }
+    ensures { Gives (λ _. found.new.items) result (columns_onto columns.now found.old.items (map (λ name. name.now) names.now)) }
+{
+    for name in names {
+        column_onto(columns, found, name)?;
+    }
     Ok(())
 }
 
@@ -93,9 +115,7 @@ fn columns_of(alloc: Global, columns: &[Column], list: &Token) -> Result<List<Op
     };
     let names = names_of(alloc, text.as_slice())?;
     let mut found = Vec::with_capacity(alloc, names.len())?;
-    for name in &names {
-        column_onto(columns, &mut found, name)?;
-    }
+    columns_onto(columns, &mut found, names.as_slice())?;
     Ok(List::of_vec(found))
 }
 
@@ -151,10 +171,10 @@ fn parts_of(
 ) -> Result<List<OpenColumn>, AllocError>
     ensures { IfOk result (λ parts. parts ≡ map (part_of columns.now) numbers.now) }
 {
-    let parts = numbers
-        .iter()
-        .map(|number| part_of(columns, *number))
-        .collect(alloc)?;
+    let mut parts = Vec::with_capacity(alloc, numbers.len())?;
+    for number in numbers {
+        parts.push(part_of(columns, *number))?;
+    }
     Ok(List::of_vec(parts))
 }
 
