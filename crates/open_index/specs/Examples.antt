@@ -34,12 +34,15 @@ people_indexes =
 abbrev pub people : Schema
 people = record { tables = record { db = codes "test"; name = codes "t"; columns = people_columns; indexes = people_indexes } ∷ [] }
 
+-- Its columns, as an open id has them.
 abbrev pub id_column : OpenColumn
 id_column = record { number = 0; kind = Int }
 
+-- A text, of 32 bytes at most.
 abbrev pub name_column : OpenColumn
 name_column = record { number = 1; kind = Bytes 32 }
 
+-- The last one.
 abbrev pub n_column : OpenColumn
 n_column = record { number = 2; kind = Int }
 
@@ -54,10 +57,11 @@ ids =
     (1, by_id (id_column ∷ name_column ∷ n_column ∷ []) [])
     ∷ (3, by_id (id_column ∷ []) (n_column ∷ id_column ∷ [])) ∷ []
 
--- A port without a secret, and one with the secret `k` that wasn't told yet.
+-- A port without a secret.
 abbrev pub free : Auth
 free = record { secret = None; passed = false }
 
+-- A port with the secret `k`, which wasn't told yet.
 abbrev pub locked : Auth
 locked = record { secret = Some (codes "k"); passed = false }
 

@@ -70,7 +70,7 @@ fn is_locked(auth: &Auth) -> bool
 }
 
 /// What a line's meaning depends on, beside the line.
-#[derive(Clone, Copy)]
+#[derive(Drop)]
 struct Context<'a> {
     schema: &'a Schema,
     port: Port,
