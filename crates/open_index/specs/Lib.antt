@@ -1,0 +1,9 @@
+pub mod Code
+pub mod Refusal
+pub mod Tokens
+pub mod Values
+pub mod Open
+pub mod Find
+pub mod Insert
+pub mod Line
+pub mod Examples
