@@ -1,7 +1,7 @@
 -- Known bytes that grow, and known bytes of which some are given.
-use Rattle.std.proofs.Common.{◌≡◌, ℕ, ◌+◌, ◌-◌, ◌≤◌, List, [], ◌++◌, length, take, drop, Option, Some, None, IfSome, Result, Ok, Err, refl, sym, ap, subst, ◌∙◌, arith, append_assoc, length-take, length-drop}
+use Rattle.std.proofs.Common.{◌≡◌, ℕ, ◌-◌, List, [], ◌++◌, length, take, drop, Option, Some, None, IfSome, Result, Ok, Err, refl, sym, ap, subst, ◌∙◌, append_assoc}
 use Rattle.std.specs.Prelude.{unwrap_or}
-use Rattle.std.proofs.lemmas.List.{append-nil, take_at, take-append-drop, drop-drop, take_rest}
+use Rattle.std.proofs.lemmas.List.{append-nil, take-append-drop, take_rest}
 use Rattle.std.specs.Io.KnownBytes.{append_known, prepend_known}
 use Rattle.hs_outside.specs.Streams.{Giver, Taker, Gave, IsAll, Grew, GrewPart, Rose, SendDoes}
 
@@ -86,10 +86,3 @@ all_given s t bytes gave ended = all_at_end s.left t.left bytes gave ended
 
 pub all_same : (t u : Giver) (x : List ℕ) → u.left ≡ t.left → IsAll t x → IsAll u x
 all_same t u x same all = subst (λ (o : Option (List ℕ)). IfSome o (λ left. left ≡ x)) (sym same) all
-
--- what was copied from the front, and what is left
-pub front_and_rest : (bytes out more : List ℕ) (at n : ℕ) → at + n ≤ length bytes → out ≡ take n (drop at bytes) → drop at bytes ≡ take n (out ++ more) ++ drop (at + n) bytes
-front_and_rest bytes out more at n fits is =
-    let long : length out ≡ n = ap length is ∙ rw (length-take, length-drop) (omega arith) in
-    let front : take n (out ++ more) ≡ out = take_at out more n long in
-    rw (front, is, ← drop-drop n at bytes, take-append-drop) refl

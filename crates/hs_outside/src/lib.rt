@@ -1,16 +1,21 @@
-//! The outside of the program, as traits: where bytes come from and where they go.
+//! The outside of the program, as traits: where bytes come from, where they go, and connections, which do both.
 //!
 //! | Trait | In memory, for tests | Over a real stream |
 //! |---|---|---|
 //! | `Source` | `MemSource` | `StreamSource` over any reader |
 //! | `Sink` | `MemSink` | `StreamSink` over any writer |
+//! | `Link` | `MemLink` | |
 //!
 //! Each counts its failed calls, and answers a failure only where that count rose. A version in memory also tells its
 //! bytes, so that contracts can speak of them; a real stream tells nothing, and what stands of bytes is then not
-//! claimed. `write_all` gives bytes to a sink whole. `Port` names a server's three ports. What the bytes mean is left to
-//! the crates above.
+//! claimed. `write_all` gives bytes to a sink whole. `Port` names a server's three ports, and `ConnId` a connection. What
+//! the bytes mean is left to the crates above.
 #![tactic(auto)]
 
+mod connections;
+mod copying;
+mod links;
+mod memory_link;
 mod memory_sink;
 mod memory_source;
 mod ports;
@@ -21,6 +26,9 @@ mod streams;
 mod tests;
 mod writing;
 
+pub use connections::ConnId;
+pub use links::{Link, Recv, Sent};
+pub use memory_link::MemLink;
 pub use memory_sink::MemSink;
 pub use memory_source::MemSource;
 pub use ports::Port;

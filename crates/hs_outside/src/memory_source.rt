@@ -5,6 +5,7 @@ ghost use Rattle.fault_count.specs.Cause.{next_count};
 ghost use Rattle.hs_outside.specs.Memory.{known_source, source_of};
 ghost use Rattle.hs_outside.specs.declared.sources.Read.TheVariants as reads;
 
+use crate::copying::copy_at;
 use crate::sources::{Read, Source};
 use fault_count::raised;
 use std::alloc::{AllocError, Global};
@@ -112,9 +113,8 @@ impl Source for MemSource {
             return Read::End;
         }
         let count = left.min(buffer.len()).min(self.most);
-        let end = self.place + count;
-        buffer[..count].copy_from_slice(&self.bytes[self.place..end]);
-        self.place = end;
+        copy_at(&self.bytes, self.place, count, buffer);
+        self.place += count;
         Read::Got(count)
     }
 }
