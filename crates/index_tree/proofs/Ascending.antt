@@ -1,7 +1,7 @@
 -- Items in the order of a comparison: which tests part them, and what keeps them in order.
 --     less_is, equal_is, greater_is, greater_back, less_back, apart_back      what a comparison's answer says
---     below_closed, through_closed, both_closed      tests that hold of each item before one that passes
---     ascending_falls, ascending_parted, parted_below, parted_through      what a search asks of a cut
+--     below_closed, through_closed, either_closed, both_closed      tests that hold of each item before one that passes
+--     ascending_falls, ascending_parted, parted_below, parted_through, parted_beside      what a cut owes
 --     ascending_kept, ascending_removed, ascending_append, ascending_front, ascending_back      filter, removal, parts
 --     ascending_with_item      an item that compares Equal to none is put in its place
 --     ascending_agree, ascending_mapped, ascending_unmapped      another order, and through a function
@@ -93,9 +93,10 @@ module _ {X : Type 0} (cmp : X → X → Ordering) where
   -- an order that agrees on all members finds the same items in order
   pub ascending_agree : (other : X → X → Ordering) (xs : List X) → ((x y : X) → Contains xs x → Contains xs y → cmp x y ≡ other x y) → IsAscending cmp xs → IsAscending other xs
   ascending_agree other [] agree ascending = tt
-  ascending_agree other (x ∷ xs) agree ascending =
-      (each_member (λ (y : X). other x y ≡ Less) xs (λ y inside. sym (agree x y (contains_first x xs) (contains_later x xs y inside)) ∙ all_members (λ (z : X). cmp x z ≡ Less) xs y ascending.0 inside),
-      ascending_agree other xs (λ y z first second. agree y z (contains_later x xs y first) (contains_later x xs z second)) ascending.1)
+  ascending_agree other (x ∷ xs) agree ascending = (
+    each_member (λ (y : X). other x y ≡ Less) xs (λ y inside. sym (agree x y (contains_first x xs) (contains_later x xs y inside)) ∙ all_members (λ (z : X). cmp x z ≡ Less) xs y ascending.0 inside),
+    ascending_agree other xs (λ y z first second. agree y z (contains_later x xs y first) (contains_later x xs z second)) ascending.1,
+  )
 
   module _ {S : Type 0} (f : S → X) where
     -- items whose values ascend have ascending values, and the other way round
@@ -106,6 +107,11 @@ module _ {X : Type 0} (cmp : X → X → Ordering) where
     pub ascending_unmapped : (xs : List S) → IsAscending cmp (map f xs) → IsAscending (λ a b. cmp (f a) (f b)) xs
     ascending_unmapped [] ascending = tt
     ascending_unmapped (x ∷ xs) ascending = (all_unmapped (λ (y : X). cmp (f x) y ≡ Less) f xs ascending.0, ascending_unmapped xs ascending.1)
+
+  -- one such test or another, as for an edge that lets in its own key or doesn't
+  pub either_closed : (b : Bool) (p q : X → Bool) → IsClosedDown cmp p → IsClosedDown cmp q → IsClosedDown cmp (λ x. cond b (p x) (q x))
+  either_closed true p q first second = first
+  either_closed false p q first second = second
 
   both_pass : (s t : Bool) → (s && t) ≡ true → (s ≡ true) × (t ≡ true)
   both_pass true true e = (refl, refl)
@@ -139,13 +145,18 @@ module _ {X : Type 0} (cmp : X → X → Ordering) (order : IsTotalOrder cmp) wh
   pub parted_through : (x : X) (xs : List X) → IsAscending cmp xs → IsParted (is_through cmp x) xs
   parted_through x = ascending_parted cmp (is_through cmp x) (through_closed x)
 
+  -- one or the other, as for an edge with its own key or without it
+  pub parted_beside : (is_behind : Bool) (x : X) (xs : List X) → IsAscending cmp xs → IsParted (λ y. cond is_behind (is_through cmp x y) (is_below cmp x y)) xs
+  parted_beside true x xs ascending = parted_through x xs ascending
+  parted_beside false x xs ascending = parted_below x xs ascending
+
   -- what is not below an item that it is apart from stands behind it
   behind_is : (x : X) (xs : List X) → IsApartFrom cmp x xs → AllByRecursion (λ y. cmp x y ≡ Less) (filter (λ y. not (is_below cmp x y)) xs)
   behind_is x xs apart =
       let test = λ (y : X). not (is_below cmp x y) in
       each_member (λ (y : X). cmp x y ≡ Less) (filter test xs) (λ y inside. less_when_left (cmp x y)
-        (ap is_lt (sym (order.antisymm y x)) ∙ not-true _ (kept_passes test xs y inside))
-        (all_members (λ (z : X). is_eq (cmp x z) ≡ false) xs y apart (member_of_kept test xs y inside)))
+      (ap is_lt (sym (order.antisymm y x)) ∙ not-true _ (kept_passes test xs y inside))
+      (all_members (λ (z : X). is_eq (cmp x z) ≡ false) xs y apart (member_of_kept test xs y inside)))
 
   -- an item that compares Equal to none keeps the order where it is put behind those before it
   pub ascending_with_item : (x : X) (xs : List X) → IsApartFrom cmp x xs → IsAscending cmp xs → IsAscending cmp (with_item cmp x xs)
@@ -154,6 +165,6 @@ module _ {X : Type 0} (cmp : X → X → Ordering) (order : IsTotalOrder cmp) wh
       let back = filter (λ (y : X). not (is_below cmp x y)) xs in
       let behind = behind_is x xs apart in
       ascending_append cmp front (x ∷ back) (ascending_kept cmp (is_below cmp x) xs ascending) (behind, ascending_kept cmp (λ (y : X). not (is_below cmp x y)) xs ascending)
-        (each_member (λ (y : X). AllByRecursion (λ (z : X). cmp y z ≡ Less) (x ∷ back)) front (λ y inside.
-          let less = less_is (cmp y x) (kept_passes (is_below cmp x) xs y inside) in
-          (less, all_weaker (λ (z : X). cmp x z ≡ Less) (λ (z : X). cmp y z ≡ Less) (λ z later. order.trans y x z less later) back behind)))
+      (each_member (λ (y : X). AllByRecursion (λ (z : X). cmp y z ≡ Less) (x ∷ back)) front (λ y inside.
+      let less = less_is (cmp y x) (kept_passes (is_below cmp x) xs y inside) in
+      (less, all_weaker (λ (z : X). cmp x z ≡ Less) (λ (z : X). cmp y z ≡ Less) (λ z later. order.trans y x z less later) back behind)))

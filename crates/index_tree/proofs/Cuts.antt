@@ -2,6 +2,7 @@
 --     IsCut test xs cut      the first so many pass, and no other does
 --     Falls test xs          what follows one that fails fails too
 --     parted_from_falls, falls_from_parted      such lists are the parted ones
+--     parted_at_end      the cuts in front of all items and behind them all
 --     cut_at_count, partitioned, count_in_slice      the cut is the number of those that pass, and a search by halves finds it
 --     front_is, rest_is, put_is      those that pass, those that don't, and one put between
 --     first_place_is, last_place_is      the first that fails, and the last that passes
@@ -188,3 +189,15 @@ module _ {X : Type 0} (test : X → Bool) where
       let bound : cut < length xs = omega (arith, counted, cut_le-length xs _ is_cut) in
       let same : suc cut - 1 ≡ cut = omega arith in
       last_place_is xs _ is_cut ∙ ap one_before (sym counted) ∙ sym (rw same (cond-true _ (Some cut) None (lt-ltb _ _ bound)))
+
+falls_at_end : {X : Type 0} (b : Bool) (xs : List X) → Falls (λ x. b) xs
+falls_at_end b [] = tt
+falls_at_end {X} b (x ∷ xs) = (λ fails. all_alike fails xs, falls_at_end b xs)
+  where
+    all_alike : b ≡ false → (ys : List X) → AllByRecursion (λ y. b ≡ false) ys
+    all_alike fails [] = tt
+    all_alike fails (y ∷ ys) = (fails, all_alike fails ys)
+
+-- a cut in front of all items, and one behind them all
+pub parted_at_end : {X : Type 0} (b : Bool) (xs : List X) → IsParted (λ x. b) xs
+parted_at_end b xs = parted_from_falls (λ x. b) xs (falls_at_end b xs)

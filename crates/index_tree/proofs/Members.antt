@@ -24,8 +24,8 @@ module _ {X : Type 0} (test : X → Bool) (x : X) (xs : List X) where
       let front = filter test xs in
       let back = filter (λ (y : X). not (test y)) xs in
       IsPermutation-trans (x ∷ xs) (x ∷ (front ++ back)) (front ++ x ∷ back)
-        (IsPermutation-cons x xs (front ++ back) (IsPermutation-filter_both test (λ (y : X). not (test y)) (λ y. refl) xs))
-        (IsPermutation-sym (front ++ x ∷ back) (x ∷ (front ++ back)) (IsPermutation-middle front x back))
+      (IsPermutation-cons x xs (front ++ back) (IsPermutation-filter_both test (λ (y : X). not (test y)) (λ y. refl) xs))
+      (IsPermutation-sym (front ++ x ∷ back) (x ∷ (front ++ back)) (IsPermutation-middle front x back))
 
   pub length-put_between : length (put_between test x xs) ≡ suc (length xs)
   length-put_between = length_permutation (x ∷ xs) (put_between test x xs) put_permutes
@@ -64,9 +64,10 @@ module _ {X : Type 0} where
   same_members_middle xs x ys = same_members_permuted (xs ++ x ∷ ys) (x ∷ (xs ++ ys)) (IsPermutation-middle xs x ys)
 
   pub same_members_kept : (test : X → Bool) (xs ys : List X) → HaveSameMembers xs ys → HaveSameMembers (filter test xs) (filter test ys)
-  same_members_kept test xs ys same x =
-      (λ inside. kept_member test ys x ((same x).0 (member_of_kept test xs x inside)) (kept_passes test xs x inside),
-      λ inside. kept_member test xs x ((same x).1 (member_of_kept test ys x inside)) (kept_passes test ys x inside))
+  same_members_kept test xs ys same x = (
+    λ inside. kept_member test ys x ((same x).0 (member_of_kept test xs x inside)) (kept_passes test xs x inside),
+    λ inside. kept_member test xs x ((same x).1 (member_of_kept test ys x inside)) (kept_passes test ys x inside),
+  )
 
   pub all_same : (P : X → Type 0) (xs ys : List X) → HaveSameMembers xs ys → AllByRecursion P xs → AllByRecursion P ys
   all_same P xs ys same all = each_member P ys (λ x inside. all_members P xs x all ((same x).1 inside))

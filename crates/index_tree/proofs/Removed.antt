@@ -39,7 +39,7 @@ module _ {X : Type 0} (cmp : X → X → Ordering) (order : IsTotalOrder cmp) wh
   pub removed_by_test : (test : X → Bool) (xs : List X) → AreApart cmp xs → (k : ℕ) (x : X) → slice_get xs k ≡ Some x → test x ≡ false → ((y : X) → Contains xs y → is_eq (cmp y x) ≡ false → test y ≡ true) → remove xs k ≡ filter test xs
   removed_by_test test xs apart k x e fails holds =
       removed_is_kept test xs k x e fails (each_member (λ (y : X). test y ≡ true) (remove xs k) (λ y inside.
-        holds y (member_of_removed xs k y inside) (all_members (λ (z : X). is_eq (cmp z x) ≡ false) (remove xs k) y (others_apart xs apart k x e) inside)))
+      holds y (member_of_removed xs k y inside) (all_members (λ (z : X). is_eq (cmp z x) ≡ false) (remove xs k) y (others_apart xs apart k x e) inside)))
 
   not_other : (x : X) → is_other cmp x x ≡ false
   not_other x = ap (λ (o : Ordering). not (is_eq o)) (tied_itself order x)
@@ -55,8 +55,10 @@ module _ {X : Type 0} (cmp : X → X → Ordering) (order : IsTotalOrder cmp) wh
   pub with_item_undone : (x : X) (xs : List X) → IsAscending cmp xs → IsApartFrom cmp x xs → filter (is_other cmp x) (with_item cmp x xs) ≡ xs
   with_item_undone x xs ascending new =
       ascending_unique cmp order (filter (is_other cmp x) (with_item cmp x xs)) xs (ascending_kept cmp (is_other cmp x) (with_item cmp x xs) (ascending_with_item cmp order x xs new ascending)) ascending
-        (λ y. (λ inside. by_member y (kept_passes (is_other cmp x) (with_item cmp x xs) y inside) (member_of_put (is_below cmp x) x xs y (member_of_kept (is_other cmp x) (with_item cmp x xs) y inside)),
-        λ inside. kept_member (is_other cmp x) (with_item cmp x xs) y (put_member_kept (is_below cmp x) x xs y inside) (other_is x y (apart_back cmp order x y (all_members (λ (z : X). is_eq (cmp x z) ≡ false) xs y new inside)))))
+      (λ y. (
+        λ inside. by_member y (kept_passes (is_other cmp x) (with_item cmp x xs) y inside) (member_of_put (is_below cmp x) x xs y (member_of_kept (is_other cmp x) (with_item cmp x xs) y inside)),
+        λ inside. kept_member (is_other cmp x) (with_item cmp x xs) y (put_member_kept (is_below cmp x) x xs y inside) (other_is x y (apart_back cmp order x y (all_members (λ (z : X). is_eq (cmp x z) ≡ false) xs y new inside))),
+      ))
     where
       by_member : (y : X) → is_other cmp x y ≡ true → (x ≡ y) ⊎ Contains xs y → Contains xs y
       by_member y other (inl same) = absurd (true≢false (sym other ∙ subst (λ (z : X). is_other cmp x z ≡ false) same (not_other x)))
@@ -68,7 +70,7 @@ module _ {X : Type 0} (cmp : X → X → Ordering) (order : IsTotalOrder cmp) wh
       let others = filter (is_other cmp x) xs in
       let new = each_member (λ (y : X). is_eq (cmp x y) ≡ false) others (λ y inside. apart_back cmp order y x (not-true _ (kept_passes (is_other cmp x) xs y inside))) in
       ascending_unique cmp order (with_item cmp x others) xs (ascending_with_item cmp order x others new (ascending_kept cmp (is_other cmp x) xs ascending)) ascending
-        (λ y. (λ inside. from_put y (member_of_put (is_below cmp x) x others y inside), λ inside. to_put y inside (is_other cmp x y) refl))
+      (λ y. (λ inside. from_put y (member_of_put (is_below cmp x) x others y inside), λ inside. to_put y inside (is_other cmp x y) refl))
     where
       from_put : (y : X) → (x ≡ y) ⊎ Contains (filter (is_other cmp x) xs) y → Contains xs y
       from_put y (inl same) = subst (Contains xs) same (contains_at xs k x e)
