@@ -21,6 +21,6 @@ mod tests;
 mod tree;
 
 pub use cut::Cut;
-pub use laws::worked_examples;
+pub use laws::{ascending_items, worked_examples};
 pub use place::Place;
 pub use tree::Tree;
