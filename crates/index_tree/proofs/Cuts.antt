@@ -1,20 +1,22 @@
--- Where a list splits into a front that passes a test and a rest that doesn't.
-use Rattle.std.proofs.Common.{◌≡◌, ℕ, zero, suc, ◌≤◌, Bool, true, false, not, cond, List, [], ◌∷◌, length, take, drop, Some, None, filter, count_by, nat_lt, sym, refl, ap, subst, ◌∙◌, arith}
-use Rattle.std.specs.List.{AllByRecursion, AllWithin}
-use Rattle.std.specs.List.Sorted.{IsPartitionPoint}
+-- Where a list that a test parts splits into those that pass and those that don't.
+--     IsCut test xs cut      the first so many pass, and no other does
+--     Falls test xs          what follows one that fails fails too
+--     parted_from_falls, falls_from_parted      such lists are the parted ones
+--     parted_at_end      the cuts in front of all items and behind them all
+--     cut_at_count, partitioned, count_in_slice      the cut is the number of those that pass, and a search by halves finds it
+--     front_is, rest_is, put_is      those that pass, those that don't, and one put between
+--     first_place_is, last_place_is      the first that fails, and the last that passes
+use Rattle.std.proofs.Common.{◌≡◌, ℕ, zero, suc, ◌-◌, ◌<◌, ◌≤◌, Bool, true, false, not, cond, List, [], ◌∷◌, ◌++◌, length, get_or, take, drop, Some, None, filter, count_by, nat_lt, sym, refl, ap, subst, ◌∙◌, arith}
+use Rattle.std.specs.List.{AllByRecursion, AllWithin, insert}
+use Rattle.std.specs.List.Sorted.{IsPartitionPoint, IsPartitionedBy}
+use Rattle.std.proofs.lemmas.Bool.{true≢false, cond-true, lt-ltb}
 use Rattle.std.proofs.lemmas.Bool.Decides.{nat_tests}
+use Rattle.std.proofs.lemmas.List.{take-append-drop}
+use Rattle.std.proofs.lemmas.List.Elements.{All-from_recursion}
 use Rattle.std.proofs.lemmas.List.Sums.{sum_by-cons}
-use Rattle.index_tree.specs.Edges.{first_place, last_place}
 use Rattle.index_tree.specs.Contents.{one_before}
-
--- a test that nothing passes, and one that all pass
-pub count_open_low : {X : Type 0} (xs : List X) → count_by (λ x. false) xs ≡ 0
-count_open_low [] = refl
-count_open_low {X} (x ∷ xs) = omega (arith, sum_by-cons (λ (y : X). 0) x xs, count_open_low xs)
-
-pub count_open_high : {X : Type 0} (xs : List X) → count_by (λ x. true) xs ≡ length xs
-count_open_high [] = refl
-count_open_high {X} (x ∷ xs) = omega (arith, sum_by-cons (λ (y : X). 1) x xs, count_open_high xs)
+use Rattle.index_tree.specs.Parts.{IsParted, put_between, first_place, last_place}
+use Rattle.index_tree.proofs.Elements.{all_pass}
 
 module _ {X : Type 0} (test : X → Bool) where
   -- the first so many pass the test, and no other does
@@ -38,10 +40,6 @@ module _ {X : Type 0} (test : X → Bool) where
   count_none [] none = refl
   count_none (x ∷ xs) none = count_no x xs none.0 ∙ count_none xs none.1
 
-  pub cut_none : (xs : List X) → AllByRecursion (λ y. test y ≡ false) xs → IsCut xs 0
-  cut_none [] none = refl
-  cut_none (x ∷ xs) none = none
-
   cut_step : (x : X) (xs : List X) → Falls (x ∷ xs) → IsCut xs (count_by test xs) → (b : Bool) → test x ≡ b → IsCut (x ∷ xs) (count_by test (x ∷ xs))
   cut_step x xs falls rest true passes = let e = count_yes x xs passes in subst (IsCut (x ∷ xs)) (sym e) (passes, rest)
   cut_step x xs falls rest false fails = let none = falls.0 fails in let e = count_no x xs fails ∙ count_none xs none in subst (IsCut (x ∷ xs)) (sym e) (fails, none)
@@ -51,7 +49,7 @@ module _ {X : Type 0} (test : X → Bool) where
   cut_at_count [] falls = refl
   cut_at_count (x ∷ xs) falls = cut_step x xs falls (cut_at_count xs falls.1) (test x) refl
 
-  pub none_from_within : (xs : List X) → AllWithin (λ y. test y ≡ false) xs 0 (length xs) → AllByRecursion (λ y. test y ≡ false) xs
+  none_from_within : (xs : List X) → AllWithin (λ y. test y ≡ false) xs 0 (length xs) → AllByRecursion (λ y. test y ≡ false) xs
   none_from_within [] within = tt
   none_from_within (x ∷ xs) within = (within 0 x (omega arith) (omega arith), none_from_within xs (λ k d low high. within (suc k) d (omega arith) (omega arith)))
 
@@ -72,6 +70,18 @@ module _ {X : Type 0} (test : X → Bool) where
   filter_none [] none = refl
   filter_none (x ∷ xs) none = rw none.0 (filter_none xs none.1)
 
+  pub filter_all : (xs : List X) → AllByRecursion (λ y. test y ≡ true) xs → filter test xs ≡ xs
+  filter_all [] all = refl
+  filter_all (x ∷ xs) all = rw all.0 (ap (λ (ys : List X). x ∷ ys) (filter_all xs all.1))
+
+  pub cut_none : (xs : List X) → AllByRecursion (λ y. test y ≡ false) xs → IsCut xs 0
+  cut_none [] none = refl
+  cut_none (x ∷ xs) none = none
+
+  pub rest_all : (xs : List X) → AllByRecursion (λ y. test y ≡ false) xs → filter (λ y. not (test y)) xs ≡ xs
+  rest_all [] none = refl
+  rest_all (x ∷ xs) none = rw none.0 (ap (λ (ys : List X). x ∷ ys) (rest_all xs none.1))
+
   -- those that pass are the front
   pub front_is : (xs : List X) (cut : ℕ) → IsCut xs cut → filter test xs ≡ take cut xs
   front_is [] zero is_cut = refl
@@ -79,10 +89,69 @@ module _ {X : Type 0} (test : X → Bool) where
   front_is (x ∷ xs) zero is_cut = filter_none (x ∷ xs) is_cut
   front_is (x ∷ xs) (suc cut) is_cut = rw is_cut.0 (ap (λ (ys : List X). x ∷ ys) (front_is xs cut is_cut.1))
 
-  pub cut_le-length : (xs : List X) (cut : ℕ) → IsCut xs cut → cut ≤ length xs
-  cut_le-length [] cut is_cut = omega (arith, is_cut)
-  cut_le-length (x ∷ xs) zero is_cut = omega arith
-  cut_le-length (x ∷ xs) (suc cut) is_cut = omega (arith, cut_le-length xs cut is_cut.1)
+  -- those that fail are the rest
+  pub rest_is : (xs : List X) (cut : ℕ) → IsCut xs cut → filter (λ y. not (test y)) xs ≡ drop cut xs
+  rest_is [] zero is_cut = refl
+  rest_is [] (suc cut) is_cut = refl
+  rest_is (x ∷ xs) zero is_cut = rest_all (x ∷ xs) is_cut
+  rest_is (x ∷ xs) (suc cut) is_cut = rw is_cut.0 (rest_is xs cut is_cut.1)
+
+  pub parted_at_cut : (xs : List X) (cut : ℕ) → IsCut xs cut → IsParted test xs
+  parted_at_cut xs cut is_cut = rw (front_is xs cut is_cut, rest_is xs cut is_cut) (take-append-drop cut xs)
+
+  pub parted_from_falls : (xs : List X) → Falls xs → IsParted test xs
+  parted_from_falls xs falls = parted_at_cut xs _ (cut_at_count xs falls)
+
+  -- where one that fails stands first, none passes
+  head_of_front : (x : X) (xs front back : List X) → AllByRecursion (λ y. test y ≡ true) front → test x ≡ false → front ++ back ≡ x ∷ xs → (front ≡ []) × (back ≡ x ∷ xs)
+  head_of_front x xs [] back pass fails e = (refl, e)
+  head_of_front x xs (y ∷ ys) back pass fails e = let same : y ≡ x = cc in absurd (true≢false (sym pass.0 ∙ ap test same ∙ fails))
+
+  all_fail : (xs : List X) → filter test xs ≡ [] → AllByRecursion (λ y. test y ≡ false) xs
+  all_fail [] e = tt
+  all_fail (x ∷ xs) e = by_test (all_fail xs) (test x) refl e
+    where
+      by_test : (filter test xs ≡ [] → AllByRecursion (λ (y : X). test y ≡ false) xs) → (b : Bool) → test x ≡ b → cond b (x ∷ filter test xs) (filter test xs) ≡ [] → AllByRecursion (λ (y : X). test y ≡ false) (x ∷ xs)
+      by_test rest true passes e = absurd cc
+      by_test rest false fails e = (fails, rest e)
+
+  -- a parted list has those that fail last
+  pub falls_from_parted : (xs : List X) → IsParted test xs → Falls xs
+  falls_from_parted [] parted = tt
+  falls_from_parted (x ∷ xs) parted = by_test (falls_from_parted xs) (test x) refl parted
+    where
+      by_test : (IsParted test xs → Falls xs) → (b : Bool) → test x ≡ b → cond b (x ∷ filter test xs) (filter test xs) ++ cond (not b) (x ∷ filter (λ (y : X). not (test y)) xs) (filter (λ (y : X). not (test y)) xs) ≡ x ∷ xs → Falls (x ∷ xs)
+      by_test rest true passes e = (λ fails. absurd (true≢false (sym passes ∙ fails)), rest cc)
+      by_test rest false fails e =
+          let split = head_of_front x xs (filter test xs) (x ∷ filter (λ (y : X). not (test y)) xs) (all_pass test xs) fails e in
+          let none = all_fail xs split.0 in
+          let whole : IsParted test xs = rw (filter_none xs none) (rest_all xs none) in
+          (λ _. none, rest whole)
+
+  passes_before : (xs : List X) → Falls xs → (i j : ℕ) (d : X) → i ≤ j → j < length xs → test (get_or xs j d) ≡ true → test (get_or xs i d) ≡ true
+  passes_before [] falls i j d low high passes = absurd (omega arith)
+  passes_before (x ∷ xs) falls zero zero d low high passes = passes
+  passes_before (x ∷ xs) falls (suc i) zero d low high passes = absurd (omega arith)
+  passes_before (x ∷ xs) falls (suc i) (suc j) d low high passes = passes_before xs falls.1 i j d (omega arith) (omega arith) passes
+  passes_before (x ∷ xs) falls zero (suc j) d low high passes = by_test (test x) refl
+    where
+      by_test : (b : Bool) → test x ≡ b → test x ≡ true
+      by_test true e = e
+      by_test false e = absurd (true≢false (sym passes ∙ All-from_recursion (λ (y : X). test y ≡ false) xs (falls.0 e) j d (omega arith)))
+
+  -- what a search by halves asks of the test
+  pub partitioned : (xs : List X) → IsParted test xs → IsPartitionedBy test xs
+  partitioned xs parted = passes_before xs (falls_from_parted xs parted)
+
+  -- the first so many of a parted list pass, and no other does
+  pub cut_of_parted : (xs : List X) → IsParted test xs → IsCut xs (count_by test xs)
+  cut_of_parted xs parted = cut_at_count xs (falls_from_parted xs parted)
+
+  -- one put at the cut stands between those that pass and the others
+  pub put_is : (x : X) (xs : List X) → IsParted test xs → (cut : ℕ) → cut ≡ count_by test xs → insert xs cut x ≡ put_between test x xs
+  put_is x xs parted cut counted =
+      let is_cut = subst (IsCut xs) (sym counted) (cut_of_parted xs parted) in
+      rw (front_is xs cut is_cut, rest_is xs cut is_cut) refl
 
   last_none : (xs : List X) → AllByRecursion (λ y. test y ≡ false) xs → last_place test xs ≡ None
   last_none [] none = refl
@@ -95,24 +164,40 @@ module _ {X : Type 0} (test : X → Bool) where
   last_place_is (x ∷ xs) (suc zero) is_cut = rw (last_place_is xs zero is_cut.1, is_cut.0) refl
   last_place_is (x ∷ xs) (suc (suc cut)) is_cut = rw (last_place_is xs (suc cut) is_cut.1) refl
 
--- one test holds just where the other fails
-abbrev pub Opposite : {X : Type 0} → (X → Bool) → (X → Bool) → List X → Type 0
-Opposite test other xs = AllByRecursion (λ x. other x ≡ not (test x)) xs
+  -- the first that fails stands right behind it
+  pub first_place_is : (xs : List X) (cut : ℕ) → IsCut xs cut → first_place (λ y. not (test y)) xs ≡ cond (nat_lt cut (length xs)) (Some cut) None
+  first_place_is [] cut is_cut = rw is_cut refl
+  first_place_is (x ∷ xs) zero is_cut = rw is_cut.0 (grind (arith, nat_tests))
+  first_place_is (x ∷ xs) (suc cut) is_cut = rw (is_cut.0, first_place_is xs cut is_cut.1) (grind (arith, nat_tests))
 
-module _ {X : Type 0} (test other : X → Bool) where
-  pub filter_all : (xs : List X) → Opposite test other xs → AllByRecursion (λ y. test y ≡ false) xs → filter other xs ≡ xs
-  filter_all [] opposite none = refl
-  filter_all (x ∷ xs) opposite none = rw (opposite.0, none.0) (ap (λ (ys : List X). x ∷ ys) (filter_all xs opposite.1 none.1))
+  cut_le-length : (xs : List X) (cut : ℕ) → IsCut xs cut → cut ≤ length xs
+  cut_le-length [] cut is_cut = omega (arith, is_cut)
+  cut_le-length (x ∷ xs) zero is_cut = omega arith
+  cut_le-length (x ∷ xs) (suc cut) is_cut = omega (arith, cut_le-length xs cut is_cut.1)
 
-  -- those that fail are the rest
-  pub rest_is : (xs : List X) (cut : ℕ) → Opposite test other xs → IsCut test xs cut → filter other xs ≡ drop cut xs
-  rest_is [] zero opposite is_cut = refl
-  rest_is [] (suc cut) opposite is_cut = refl
-  rest_is (x ∷ xs) zero opposite is_cut = filter_all (x ∷ xs) opposite is_cut
-  rest_is (x ∷ xs) (suc cut) opposite is_cut = rw (opposite.0, is_cut.0) (rest_is xs cut opposite.1 is_cut.1)
+  -- what a search from the cut answers on either side of it
+  pub first_behind : (xs : List X) → IsParted test xs → (cut : ℕ) → cut ≡ count_by test xs → first_place (λ y. not (test y)) xs ≡ cond (nat_lt cut (length xs)) (Some cut) None
+  first_behind xs parted cut counted = rw counted (first_place_is xs _ (cut_of_parted xs parted))
 
-  -- the first that fails stands right behind the cut
-  pub first_place_is : (xs : List X) (cut : ℕ) → Opposite test other xs → IsCut test xs cut → first_place other xs ≡ cond (nat_lt cut (length xs)) (Some cut) None
-  first_place_is [] cut opposite is_cut = rw is_cut refl
-  first_place_is (x ∷ xs) zero opposite is_cut = rw (opposite.0, is_cut.0) (grind (arith, nat_tests))
-  first_place_is (x ∷ xs) (suc cut) opposite is_cut = rw (opposite.0, is_cut.0, first_place_is xs cut opposite.1 is_cut.1) (grind (arith, nat_tests))
+  pub none_before : (xs : List X) → IsParted test xs → (cut : ℕ) → cut ≡ count_by test xs → cut ≡ 0 → last_place test xs ≡ None
+  none_before xs parted cut counted none = last_place_is xs _ (cut_of_parted xs parted) ∙ ap one_before (sym counted ∙ none)
+
+  pub last_before : (xs : List X) → IsParted test xs → (cut : ℕ) → cut ≡ count_by test xs → (cut ≡ 0 → ⊥) → last_place test xs ≡ cond (nat_lt (cut - 1) (length xs)) (Some (cut - 1)) None
+  last_before xs parted zero counted some = absurd (some refl)
+  last_before xs parted (suc cut) counted some =
+      let is_cut = cut_of_parted xs parted in
+      let bound : cut < length xs = omega (arith, counted, cut_le-length xs _ is_cut) in
+      let same : suc cut - 1 ≡ cut = omega arith in
+      last_place_is xs _ is_cut ∙ ap one_before (sym counted) ∙ sym (rw same (cond-true _ (Some cut) None (lt-ltb _ _ bound)))
+
+falls_at_end : {X : Type 0} (b : Bool) (xs : List X) → Falls (λ x. b) xs
+falls_at_end b [] = tt
+falls_at_end {X} b (x ∷ xs) = (λ fails. all_alike fails xs, falls_at_end b xs)
+  where
+    all_alike : b ≡ false → (ys : List X) → AllByRecursion (λ y. b ≡ false) ys
+    all_alike fails [] = tt
+    all_alike fails (y ∷ ys) = (fails, all_alike fails ys)
+
+-- a cut in front of all items, and one behind them all
+pub parted_at_end : {X : Type 0} (b : Bool) (xs : List X) → IsParted (λ x. b) xs
+parted_at_end b xs = parted_from_falls (λ x. b) xs (falls_at_end b xs)

@@ -1,30 +1,29 @@
 -- What a tree holds, as its callers see it.
 use Rattle.std.specs.Prelude.{◌≡◌, ℕ, zero, suc, ◌+◌, ◌<◌, List, length, Option, Some, None, IsSomeAnd, cond, nat_lt, slice_get, refl}
 use Rattle.std.specs.Coded.{Coded, code_by, coded×, coded_ℕ, coded_list}
-use Rattle.index_tree.specs.Pairs.{Pairs}
 
--- the pairs in the order of their keys, the place of each in the same order, and how many inserts fit
-pub record Contents (K : Type 0) : Type 0 where
-  pub pairs : Pairs K
+-- the items from first to last, the place of each in the same order, and how many inserts fit
+pub record Contents (T : Type 0) : Type 0 where
+  pub items : List T
   pub places : List ℕ
   pub spare : ℕ
 
 -- the contents are stored as the three of them, one beside the other
-abbrev pub contents_code : {K : Type 0} → Coded K → Coded (Contents K)
-contents_code {K} key =
-    code_by (Pairs K × (List ℕ × ℕ)) (coded× (coded_list (coded× key coded_ℕ)) (coded× (coded_list coded_ℕ) coded_ℕ)) (λ held. (held.pairs, (held.places, held.spare))) (λ parts. record { pairs = parts.0; places = parts.1.0; spare = parts.1.1 }) (λ _. refl)
+abbrev pub contents_code : {T : Type 0} → Coded T → Coded (Contents T)
+contents_code {T} item =
+    code_by (List T × (List ℕ × ℕ)) (coded× (coded_list item) (coded× (coded_list coded_ℕ) coded_ℕ)) (λ held. (held.items, (held.places, held.spare))) (λ parts. record { items = parts.0; places = parts.1.0; spare = parts.1.1 }) (λ _. refl)
 
--- the place stands for the pair that has so many before it
-pub record IsAt {K : Type 0} (tree : Contents K) (place before : ℕ) : Type 0 where
-  pub within : before < length tree.pairs
+-- the place stands for the item that has so many before it
+pub record IsAt {T : Type 0} (tree : Contents T) (place before : ℕ) : Type 0 where
+  pub within : before < length tree.items
   pub named : slice_get tree.places before ≡ Some place
 
--- the place stands for one of the pairs
-abbrev pub IsInside : {K : Type 0} → Contents K → ℕ → Type 0
+-- the place stands for one of the items
+abbrev pub IsInside : {T : Type 0} → Contents T → ℕ → Type 0
 IsInside tree place = (before : ℕ) × IsAt tree place before
 
--- the answer is the place of the pair that has so many before it, and None where no pair is meant
-abbrev pub Finds : {K : Type 0} → Contents K → Option ℕ → Option ℕ → Type 0
+-- the answer is the place of the item that has so many before it, and None where no item is meant
+abbrev pub Finds : {T : Type 0} → Contents T → Option ℕ → Option ℕ → Type 0
 Finds tree None answer = answer ≡ None
 Finds tree (Some before) answer = IsSomeAnd answer (λ place. IsAt tree place before)
 

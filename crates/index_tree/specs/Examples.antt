@@ -1,7 +1,6 @@
--- A small tree's pairs.
-use Rattle.std.specs.Prelude.{ℕ, [], ◌∷◌}
-use Rattle.index_tree.specs.Pairs.{Pairs}
+-- A small tree's items.
+use Rattle.std.specs.Prelude.{ℕ, List, [], ◌∷◌}
 
--- the keys 1, 3 and 5, each with the slot that is ten times as large
-abbrev pub odd_keys : Pairs ℕ
-odd_keys = (1, 10) ∷ (3, 30) ∷ (5, 50) ∷ []
+-- the first three odd numbers, in their order
+abbrev pub odds : List ℕ
+odds = 1 ∷ 3 ∷ 5 ∷ []

@@ -1,4 +1,4 @@
 pub mod Contents
-pub mod Edges
 pub mod Examples
-pub mod Pairs
+pub mod Ordered
+pub mod Parts

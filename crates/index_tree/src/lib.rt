@@ -1,24 +1,26 @@
-//! An ordered index: keys, each beside the slot of its row, walked in either direction from any edge.
+//! A row of items whose order is told from outside, walked in either direction from any cut.
 //!
-//!     with(2)  without(5)       pairs    (1, 7)   (3, 2)   (5, 4)
-//!         |        |            spare    how many inserts fit before the next `reserve`
-//!     1 ----- 3 ----- 5 ----
+//!              cut
+//!     7 --- 2 --|-- 4 --- 9      items    small and copied, as the slots of a table's rows
+//!      before   |   behind       spare    how many inserts fit before the next `reserve`
 //!
-//! `reserve` is the one call that takes memory. After it so many calls of `insert` can't be refused, and each `remove`
-//! gives back the room of one. `first_from` and `last_to` find a pair from an `Edge`, `next` and `prev` go on from it,
-//! and `slot_at` reads its slot. What a key is and how keys are ordered is said by a `TreeKey`.
+//! `reserve` is the one call that takes memory. After it so many calls of `insert` can't be refused, and each
+//! `remove_at` gives back the room of one. `first_behind` and `last_before` find an item from a `Cut`, `next` and
+//! `prev` go on from it, and `item_at` reads it.
+//!
+//! A tree knows no key. A cut tells of each item whether it stands before it; the caller's part is that all such
+//! items stand in front of all others, which they do where he inserts by one order and cuts by that order. What an
+//! insert and a removal make of ordered items is said in specs/Ordered.antt, with its lemmas in proofs/.
 #![tactic(auto)]
 
-mod edge;
-mod key;
+mod cut;
 mod laws;
 mod place;
 #[cfg(test)]
 mod tests;
 mod tree;
 
-pub use edge::Edge;
-pub use key::TreeKey;
-pub use laws::worked_examples;
+pub use cut::Cut;
+pub use laws::{ascending_items, worked_examples};
 pub use place::Place;
 pub use tree::Tree;

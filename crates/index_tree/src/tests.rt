@@ -1,200 +1,252 @@
-//! Trees of keys of one number and of several parts: edges, walks both ways, room.
+//! Trees of numbers and of lists of parts, in an order that the tests' own cuts tell: cuts, walks both ways, room.
 use super::*;
 use std::alloc::{AllocError, Global};
-use std::cmp::Ordering;
+use std::cmp::Reverse;
+use std::marker::Model;
 use std::test::Fail;
 
-#[derive(Debug, Drop)]
-struct Number(u64);
+// Right in front of where an item stands or would stand, or right behind it.
+#[derive(Clone, Copy, Debug)]
+struct Beside<K> {
+    key: K,
+    is_behind: bool,
+}
 
-impl TreeKey for Number {
-    ghost use Rattle.std.specs.Ordering.{nat_cmp, on};
-    ghost use Rattle.std.proofs.lemmas.Cmp.{nat_cmp_total, on_total};
+impl<K: Ord> Cut<K> for Beside<K> {
+    ghost use Rattle.std.specs.Prelude.{if◌then◌else◌};
+    ghost use Rattle.index_tree.specs.Ordered.{is_below, is_through};
 
-    ghost cmp = { on (λ key. key.0) nat_cmp };
+    ghost before = { λ cut item. if cut.is_behind then is_through K.cmp cut.key item else is_below K.cmp cut.key item };
 
-    fn cmp_key(&self, other: &Self) -> Ordering {
-        self.0.cmp(&other.0)
+    fn is_before(&self, item: &K) -> bool {
+        let order = item.cmp(&self.key);
+        if self.is_behind {
+            !order.is_gt()
+        } else {
+            order.is_lt()
+        }
+    }
+}
+
+fn front<K>(key: K) -> Beside<K> {
+    Beside {
+        key,
+        is_behind: false,
+    }
+}
+
+fn behind<K>(key: K) -> Beside<K> {
+    Beside {
+        key,
+        is_behind: true,
+    }
+}
+
+// Behind all items, or in front of them all.
+struct Beyond(bool);
+
+impl<K> Cut<K> for Beyond {
+    ghost before = { λ cut item. cut.0 };
+
+    fn is_before(&self, _item: &K) -> bool {
+        self.0
+    }
+}
+
+// A tree whose items are put in by one order.
+#[derive(Drop)]
+struct Sorted<K: Ord + Copy> {
+    tree: Tree<K>,
+}
+
+impl<K: Ord + Copy> Model for Sorted<K> {
+    ghost use Rattle.index_tree.specs.Contents.{Contents, contents_code};
+    ghost use Rattle.index_tree.specs.Ordered.{IsAscending};
+
+    ghost Value = { Contents K };
+
+    ghost coded = { contents_code K.code };
+
+    ghost view = { λ sorted. sorted.tree };
+
+    ghost invariant = { λ sorted. IsAscending K.cmp sorted.tree.items };
+}
+
+impl<K: Ord + Copy> Sorted<K> {
+    ghost use Rattle.std.specs.Prelude.{◌≡◌, false};
+    ghost use Rattle.index_tree.specs.Ordered.{IsApartFrom};
+
+    fn new(alloc: Global) -> Sorted<K> {
+        Sorted {
+            tree: Tree::new(alloc),
+        }
     }
 
-    ghost total = { on_total (λ key. key.0) nat_cmp_total };
-}
-
-// Compared part by part, a key's own beginnings before it.
-#[derive(Debug, Drop)]
-struct Parts<'a>(&'a [u64]);
-
-impl TreeKey for Parts<'_> {
-    ghost use Rattle.std.specs.Ordering.{nat_cmp, on};
-    ghost use Rattle.std.specs.Cmp.Lexicographic.{slice_cmp};
-    ghost use Rattle.std.proofs.lemmas.Cmp.{nat_list_cmp_total, on_total};
-
-    ghost cmp = { on (λ key. key.0.now) (slice_cmp nat_cmp) };
-
-    fn cmp_key(&self, other: &Self) -> Ordering {
-        self.0.cmp(other.0)
-    }
-
-    ghost total = { on_total (λ key. key.0.now) nat_list_cmp_total };
-}
-
-// Adds a key that is not there, and says whether it did.
-fn put<K: TreeKey + Drop>(tree: &mut Tree<K>, key: K, slot: u32) -> Result<bool, AllocError> {
-    tree.reserve(1)?;
-    if tree.remove(&key).is_some() {
-        return Ok(false);
-    }
-    tree.insert(key, slot);
-    Ok(true)
-}
-
-fn first<K: TreeKey>(tree: &Tree<K>, edge: &Edge<K>) -> Option<u32> {
-    tree.first_from(edge).map(|place| tree.slot_at(place))
-}
-
-fn last<K: TreeKey>(tree: &Tree<K>, edge: &Edge<K>) -> Option<u32> {
-    tree.last_to(edge).map(|place| tree.slot_at(place))
-}
-
-// The first slot behind parts that the caller lends, whatever lifetime the tree's own keys have.
-fn behind_lent(tree: &Tree<Parts<'static>>, parts: &[u64]) -> Option<u32> {
-    let tree: &Tree<Parts<'_>> = tree;
-    first(tree, &Edge::Without(Parts(parts)))
-}
-
-// The slots from the first pair on, and from the last back, as far as `steps` go.
-fn walk_up<K: TreeKey>(alloc: Global, tree: &Tree<K>, steps: u32) -> Result<Vec<u32>, AllocError> {
-    let mut slots = Vec::new(alloc);
-    let mut place = tree.first_from(&Edge::Open);
-    for _ in 0..steps {
-        let Some(at) = place else {
-            return Ok(slots);
+    fn has(&self, key: K) -> bool
+        ensures { result ≡ false → IsApartFrom K.cmp key self.now.items }
+    {
+        let cut = Beside {
+            key,
+            is_behind: false,
         };
-        slots.push(tree.slot_at(at))?;
-        place = tree.next(at);
+        match self.tree.first_behind(&cut) {
+            None => false,
+            Some(place) => self.tree.item_at(place).cmp(&key).is_eq(),
+        }
     }
-    Ok(slots)
-}
 
-fn walk_down<K: TreeKey>(
-    alloc: Global,
-    tree: &Tree<K>,
-    steps: u32,
-) -> Result<Vec<u32>, AllocError> {
-    let mut slots = Vec::new(alloc);
-    let mut place = tree.last_to(&Edge::Open);
-    for _ in 0..steps {
-        let Some(at) = place else {
-            return Ok(slots);
+    // Adds a key that is not there, and says whether it did.
+    fn add(&mut self, key: K) -> Result<bool, AllocError> {
+        self.tree.reserve(1)?;
+        if self.has(key) {
+            return Ok(false);
+        }
+        let cut = Beside {
+            key,
+            is_behind: false,
         };
-        slots.push(tree.slot_at(at))?;
-        place = tree.prev(at);
+        self.tree.insert(&cut, key);
+        Ok(true)
     }
-    Ok(slots)
+
+    // Takes out the first item behind a cut.
+    fn take(&mut self, cut: &Beside<K>) -> Option<K> {
+        let place = self.tree.first_behind(cut)?;
+        Some(self.tree.remove_at(place))
+    }
+
+    fn first(&self, cut: &Beside<K>) -> Option<K> {
+        let place = self.tree.first_behind(cut)?;
+        Some(self.tree.item_at(place))
+    }
+
+    fn last(&self, cut: &Beside<K>) -> Option<K> {
+        let place = self.tree.last_before(cut)?;
+        Some(self.tree.item_at(place))
+    }
+
+    // The items from the first on, as far as `steps` go.
+    fn walk_up(&self, alloc: Global, steps: u32) -> Result<Vec<K>, AllocError> {
+        let mut items = Vec::new(alloc);
+        let mut place = self.tree.first_behind(&Beyond(false));
+        for _ in 0..steps {
+            let Some(at) = place else {
+                return Ok(items);
+            };
+            items.push(self.tree.item_at(at))?;
+            place = self.tree.next(at);
+        }
+        Ok(items)
+    }
+
+    // And from the last back.
+    fn walk_down(&self, alloc: Global, steps: u32) -> Result<Vec<K>, AllocError> {
+        let mut items = Vec::new(alloc);
+        let mut place = self.tree.last_before(&Beyond(true));
+        for _ in 0..steps {
+            let Some(at) = place else {
+                return Ok(items);
+            };
+            items.push(self.tree.item_at(at))?;
+            place = self.tree.prev(at);
+        }
+        Ok(items)
+    }
 }
 
 #[test]
-fn an_edge_finds_the_first_and_the_last(rt: HostRuntime) -> Result<(), Fail> {
-    let mut tree = Tree::new(rt.alloc());
-    tree.reserve(3)?;
-    tree.insert(Number(5), 50);
-    tree.insert(Number(1), 10);
-    tree.insert(Number(3), 30);
-    assert_eq!(rt; first(&tree, &Edge::With(Number(2))), Some(30));
-    assert_eq!(rt; tree.remove(&Number(3)), Some(30));
-    assert_eq!(rt; first(&tree, &Edge::With(Number(2))), Some(50));
-    assert_eq!(rt; last(&tree, &Edge::Without(Number(1))), None);
+fn a_cut_finds_the_first_behind_it_and_the_last_before_it(rt: HostRuntime) -> Result<(), Fail> {
+    let mut numbers = Sorted::new(rt.alloc());
+    for key in [0, 3, 9] {
+        assert_eq!(rt; numbers.first(&front(key)), None);
+        assert_eq!(rt; numbers.last(&behind(key)), None);
+    }
+    for (key, is_new) in [(5, true), (1, true), (3, true), (3, false), (1, false)] {
+        assert_eq!(rt; numbers.add(key)?, is_new);
+    }
+    for (key, first, first_after, last, last_before) in [
+        (0, Some(1), Some(1), None, None),
+        (1, Some(1), Some(3), Some(1), None),
+        (2, Some(3), Some(3), Some(1), Some(1)),
+        (3, Some(3), Some(5), Some(3), Some(1)),
+        (5, Some(5), None, Some(5), Some(3)),
+        (6, None, None, Some(5), Some(5)),
+    ] {
+        assert_eq!(rt; numbers.first(&front(key)), first, "from {key}");
+        assert_eq!(rt; numbers.first(&behind(key)), first_after, "behind {key}");
+        assert_eq!(rt; numbers.last(&behind(key)), last, "up to {key}");
+        assert_eq!(rt; numbers.last(&front(key)), last_before, "before {key}");
+    }
     Ok(())
 }
 
 #[test]
-fn edges_around_numbers(rt: HostRuntime) -> Result<(), Fail> {
-    let mut tree = Tree::new(rt.alloc());
-    for (edge, _, _) in [
-        (Edge::Open, 0, 0),
-        (Edge::With(Number(3)), 0, 0),
-        (Edge::Without(Number(3)), 0, 0),
-    ] {
-        assert_eq!(rt; first(&tree, &edge), None);
-        assert_eq!(rt; last(&tree, &edge), None);
+fn a_walk_meets_the_items_as_a_sort_puts_them(rt: HostRuntime) -> Result<(), Fail> {
+    let mut numbers = Sorted::new(rt.alloc());
+    let mut backwards = Sorted::new(rt.alloc());
+    let mut plain = Vec::new(rt.alloc());
+    let mut key = 1u64;
+    for count in 0..40 {
+        assert_eq!(rt; numbers.tree.len(), count);
+        key = key * 61 % 101;
+        assert!(rt; numbers.add(key)?);
+        assert!(rt; backwards.add(Reverse(key))?);
+        plain.push(key)?;
     }
-    for (key, slot, is_new) in [(5, 50, true), (1, 10, true), (3, 30, true), (3, 31, false)] {
-        assert_eq!(rt; put(&mut tree, Number(key), slot)?, is_new);
-    }
-    assert!(rt; put(&mut tree, Number(3), 30)?);
-    for (edge, low, high) in [
-        (Edge::Open, Some(10), Some(50)),
-        (Edge::With(Number(0)), Some(10), None),
-        (Edge::With(Number(1)), Some(10), Some(10)),
-        (Edge::With(Number(2)), Some(30), Some(10)),
-        (Edge::With(Number(3)), Some(30), Some(30)),
-        (Edge::With(Number(5)), Some(50), Some(50)),
-        (Edge::With(Number(6)), None, Some(50)),
-        (Edge::Without(Number(0)), Some(10), None),
-        (Edge::Without(Number(1)), Some(30), None),
-        (Edge::Without(Number(2)), Some(30), Some(10)),
-        (Edge::Without(Number(3)), Some(50), Some(10)),
-        (Edge::Without(Number(5)), None, Some(30)),
-        (Edge::Without(Number(6)), None, Some(50)),
-    ] {
-        assert_eq!(rt; first(&tree, &edge), low, "from {edge:?}");
-        assert_eq!(rt; last(&tree, &edge), high, "to {edge:?}");
-    }
-    assert_eq!(rt;
-        walk_up(rt.alloc(), &tree, 9)?.as_slice(),
-        [10, 30, 50].as_slice()
-    );
-    assert_eq!(rt;
-        walk_down(rt.alloc(), &tree, 9)?.as_slice(),
-        [50, 30, 10].as_slice()
-    );
-    assert_eq!(rt; tree.remove(&Number(4)), None);
+    plain.sort()?;
+    assert_eq!(rt; numbers.walk_up(rt.alloc(), 99)?, plain);
+    let reversed = backwards.walk_up(rt.alloc(), 99)?;
+    assert_eq!(rt; reversed.first(), Some(&Reverse(plain[39])));
+    plain.reverse();
+    assert_eq!(rt; numbers.walk_down(rt.alloc(), 99)?, plain);
+    assert_eq!(rt; numbers.walk_down(rt.alloc(), 3)?.as_slice(), &plain[..3]);
     Ok(())
 }
 
 #[test]
-fn a_key_stands_behind_its_own_beginnings(rt: HostRuntime) -> Result<(), Fail> {
-    let mut tree = Tree::new(rt.alloc());
-    for (key, slot) in [
-        ([2].as_slice(), 5),
-        ([1, 7, 0].as_slice(), 3),
-        ([1].as_slice(), 1),
-        ([1, 7].as_slice(), 2),
-        ([1, 9].as_slice(), 4),
-    ] {
-        assert!(rt; put(&mut tree, Parts(key), slot)?);
+fn a_list_stands_behind_its_own_beginnings(rt: HostRuntime) -> Result<(), Fail> {
+    let mut lists = Sorted::new(rt.alloc());
+    for list in [[2].as_slice(), &[1, 7, 0], &[1], &[1, 7], &[1, 9]] {
+        assert!(rt; lists.add(list)?);
     }
+    let up = lists.walk_up(rt.alloc(), 9)?;
     assert_eq!(rt;
-        walk_up(rt.alloc(), &tree, 9)?.as_slice(),
-        [1, 2, 3, 4, 5].as_slice()
+        up.as_slice(),
+        [[1].as_slice(), &[1, 7], &[1, 7, 0], &[1, 9], &[2]].as_slice()
     );
-    for (edge, low, high) in [
-        (Edge::With(Parts(&[1, 7])), Some(2), Some(2)),
-        (Edge::Without(Parts(&[1, 7])), Some(3), Some(1)),
-        (Edge::Without(Parts(&[1, 8])), Some(4), Some(3)),
-        (Edge::With(Parts(&[])), Some(1), None),
+    for (list, first, last) in [
+        (
+            [1, 7].as_slice(),
+            Some([1, 7].as_slice()),
+            Some([1, 7].as_slice()),
+        ),
+        (&[1, 8], Some(&[1, 9]), Some(&[1, 7, 0])),
+        (&[], Some(&[1]), None),
+        (&[3], None, Some(&[2])),
     ] {
-        assert_eq!(rt; first(&tree, &edge), low, "from {edge:?}");
-        assert_eq!(rt; last(&tree, &edge), high, "to {edge:?}");
+        assert_eq!(rt; lists.first(&front(list)), first);
+        assert_eq!(rt; lists.last(&behind(list)), last);
     }
-    let lent = vec![in rt.alloc(); 1, 7, 5]?;
-    assert_eq!(rt; behind_lent(&tree, lent.as_slice()), Some(4));
     Ok(())
 }
 
 #[test]
-fn a_pair_that_was_found_is_handed_back(rt: HostRuntime) -> Result<(), Fail> {
-    let mut tree = Tree::new(rt.alloc());
-    tree.reserve(2)?;
-    tree.insert(Number(7), 70);
-    tree.insert(Number(4), 40);
-    let found = tree.first_from(&Edge::With(Number(5))).ok_or("a pair")?;
-    let (key, slot) = tree.remove_at(found);
-    assert_eq!(rt; (key.0, slot), (7, 70));
-    tree.insert(Number(9), 90);
+fn an_item_taken_out_leaves_room_for_another(rt: HostRuntime) -> Result<(), Fail> {
+    let mut numbers = Sorted::new(rt.alloc());
+    for key in [7, 4, 9] {
+        assert!(rt; numbers.add(key)?);
+    }
+    assert_eq!(rt; numbers.take(&front(5)), Some(7));
+    assert_eq!(rt; numbers.take(&front(10)), None);
+    assert!(rt; numbers.add(8)?);
+    assert_eq!(rt; numbers.take(&behind(0)), Some(4));
     assert_eq!(rt;
-        walk_up(rt.alloc(), &tree, 9)?.as_slice(),
-        [40, 90].as_slice()
+        numbers.walk_up(rt.alloc(), 9)?.as_slice(),
+        [8, 9].as_slice()
+    );
+    assert_eq!(rt;
+        numbers.walk_down(rt.alloc(), 9)?.as_slice(),
+        [9, 8].as_slice()
     );
     Ok(())
 }

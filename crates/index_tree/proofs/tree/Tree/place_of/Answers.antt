@@ -6,5 +6,5 @@ use Rattle.index_tree.proofs.tree.Tree.place_of.Goals as goal
 pub returns-then-before-len : goal.returns-then-before-len
 returns-then-before-len g c =
     let numbered : Numbered c.args.self.now = rw (← c.self.view_is) refl in
-    let within : c.args.before < length c.args.self.now.pairs = rw (← c.self.view_is) (omega arith) in
+    let within : c.args.before < length c.args.self.now.items = rw (← c.self.view_is) (omega arith) in
     rw (lt-ltb _ _ within, c.of.ensures) (at_number c.args.self.now numbered c.args.before within)
