@@ -1,5 +1,5 @@
 -- Reading a find, part by part: `<vlen> <v1>..<vn> [LIM] [IN] [FILTER ..] [MOD]`.
-use Rattle.std.specs.Prelude.{ℕ, zero, suc, List, [], ◌∷◌, length, map, take, codes, slice_get, Option, Some, None, Result, Ok, Err, Bool, true, false, ◌==◌, ◌||◌, nat_lt, is_some, if◌then◌else◌}
+use Rattle.std.specs.Prelude.{ℕ, zero, suc, List, [], ◌∷◌, length, map, take, codes, slice_get, Option, Some, None, Result, Ok, Err, Bool, true, false, ◌==◌, ◌||◌, nat_lt, if◌then◌else◌}
 use Rattle.hs_token.specs.declared.tokens.Token.{Token}
 use Rattle.hs_outside.specs.declared.ports.Port.{Port}
 use Rattle.hs_outside.specs.declared.ports.Port.TheVariants as ports

@@ -1,5 +1,5 @@
 -- Opening an index: `P <indexid> <db> <table> <index> <columns> [<fcolumns>]`.
-use Rattle.std.specs.Prelude.{ℕ, ◌+◌, List, [], ◌∷◌, ◌++◌, length, map, slice_get, Option, Some, None, option_map, Result, Ok, Err, Bool, true, false, ◌==◌, ◌<◌, ◌^◌, ◌&&◌, ◌||◌, not, nat_eq, nat_lt, nat_le, is_some, if◌then◌else◌}
+use Rattle.std.specs.Prelude.{ℕ, ◌+◌, List, [], ◌∷◌, ◌++◌, length, map, slice_get, Option, Some, None, Result, Ok, Err, Bool, ◌==◌, ◌<◌, ◌^◌, ◌&&◌, ◌||◌, nat_eq, nat_lt, is_some, if◌then◌else◌}
 use Rattle.std.specs.List.{slice_split, list_any, All}
 use Rattle.std.specs.Ordering.{nat_cmp}
 use Rattle.std.specs.BTreeMap.{is_at, insert_entry}

@@ -2,6 +2,8 @@
 ghost use Rattle.std.specs.Prelude.{◌≡◌, IfOk, OnErr};
 ghost use Rattle.open_index.specs.Refusal.{Gives};
 ghost use Rattle.open_index.specs.Open.{IsNumbered};
+ghost use Rattle.row_types.specs.Valid.{IsValid};
+ghost use Rattle.open_index.specs.Fits.{HandlesFit, ResolvedFits};
 ghost use Rattle.open_index.specs.Line.{command_of, is_secret, tells, is_locked, command_means, tokens_mean, line_means, reads};
 
 use crate::codes::Code;
@@ -148,6 +150,9 @@ pub fn resolve(
     requires { IsNumbered schema.now }
     ensures ok { IfOk result (λ resolved. (resolved, handles.new, auth.new) ≡ reads schema.now port handles.old auth.old line.now) }
     ensures err { OnErr result ((handles.new ≡ handles.old) × (auth.new ≡ auth.old)) }
+    // What is asked of the tables fits their schema.
+    ensures fits { IsValid schema.now → HandlesFit schema.now handles.old → IfOk result (ResolvedFits schema.now) }
+    ensures handles_fit { IsValid schema.now → HandlesFit schema.now handles.old → HandlesFit schema.now handles.new }
 {
     let context = Context {
         schema,
