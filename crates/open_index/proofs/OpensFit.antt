@@ -16,7 +16,7 @@ use Rattle.open_index.specs.declared.handles.Handle.{Handle}
 use Rattle.open_index.specs.declared.handles.OpenColumn.{OpenColumn}
 use Rattle.open_index.specs.Refusal.{or_refuse}
 use Rattle.open_index.specs.Tokens.{u32_at}
-use Rattle.open_index.specs.Open.{table_named, index_named, column_named, names_of, is_listed, column_onto, columns_onto, columns_of, part_of, filter_columns_of, lists_of, handle_of, has_room, open_of}
+use Rattle.open_index.specs.Open.{table_named, index_named, column_named, names_of, is_listed, column_onto, columns_onto, columns_of, part_of, filter_columns_of, lists_of, handle_by, handle_of, has_room, open_of}
 use Rattle.open_index.specs.Find.{numbers}
 use Rattle.open_index.specs.Fits.{IsColumnOf, HandleFitsTable, HandleFits}
 use Rattle.open_index.proofs.Cases.{bind_ok, guard_ok, need_ok, refuse_ok, ok_same, some_same, and_true, or_false, not_true, some_at, all_get, all_push}
@@ -153,7 +153,7 @@ handle_fits schema db name index lists h valid e =
     let is_index : IsIndex table.columns (i.0).1 = all_get (IsIndex table.columns) table.indexes (i.0).0 (i.0).1 is_table.indexes.each place in
     let fit = lists_fit table.columns lists cs.0 cs.1 in
     let parts : List OpenColumn = map (part_of table.columns) ((i.0).1).parts in
-    let made : Handle = record { table = (t.0).0; index = (i.0).0; parts = parts; columns = (cs.0).0; filter_columns = (cs.0).1 } in
+    let made : Handle = handle_by t.0 i.0 cs.0 in
     let is : HandleFitsTable table made = record {
       index = some_at (λ (d : IndexDef). numbers parts ≡ d.parts) (slice_get table.indexes (i.0).0) (i.0).1 place (same_parts table.columns ((i.0).1).parts);
       parts = All-from_recursion (IsColumnOf table.columns) parts (parts_fit table.columns ((i.0).1).parts is_index.within);

@@ -31,7 +31,7 @@ use Rattle.open_index.specs.declared.requests.Request.TheVariants.{Insert}
 use Rattle.open_index.specs.Refusal.{◌>>=◌, or_refuse}
 use Rattle.open_index.specs.Values.{values_of}
 use Rattle.open_index.specs.Open.{stands_for}
-use Rattle.open_index.specs.Find.{numbers, key_at, limit_at, within_at, filters_at, mod_of, asked, find_op, find_of, is_reading, count_at}
+use Rattle.open_index.specs.Find.{numbers, key_at, limit_at, within_at, filters_at, mod_of, asked, found_by, find_op, find_of, is_reading, count_at}
 use Rattle.open_index.specs.Insert.{rest_of, insert_of}
 use Rattle.open_index.specs.Line.{operation_of, request_of}
 use Rattle.open_index.specs.Fits.{IsColumnOf, HandleFitsTable, HandleFits, HandlesFit, InsertFitsTable, InsertFits, RequestFits}
@@ -118,7 +118,7 @@ record Parts (port : Port) (h : Handle) (op : FindOp) (ts : List Token) (r : Req
   filters_are : filters_at (length within.1) h.filter_columns within.1 ≡ Ok filters
   change : Option ModSpec
   change_is : mod_of port h.columns filters.1 ≡ Ok change
-  asks : asked (record { table = h.table; index = h.index; op = op; key = key.0; within = within.0; limit = (limit.0).0; offset = (limit.0).1; filters = filters.0; columns = numbers h.columns }) change ≡ r
+  asks : asked (found_by h op key.0 limit.0 within.0 filters.0) change ≡ r
 
 parts_of : (port : Port) (h : Handle) (op : FindOp) (ts : List Token) (r : Request) → find_of port h op ts ≡ Ok r → Parts port h op ts r
 unfolding find_of
@@ -138,15 +138,14 @@ parts_of port h op ts r e =
       filters_are = filters.1;
       change = change.0;
       change_is = change.1;
-      asks = ok_same _ r change.2;
+      asks = ok_same (asked (found_by h op (key.0).0 (limit.0).0 (within.0).0 (filters.0).0) change.0) r change.2;
     }
 
 -- The find of the parts.
-find_in : (port : Port) (h : Handle) (op : FindOp) (ts : List Token) (r : Request) → Parts port h op ts r → FindSpec
-find_in port h op ts r p = record { table = h.table; index = h.index; op = op; key = (p.key).0; within = (p.within).0; limit = ((p.limit).0).0; offset = ((p.limit).0).1; filters = (p.filters).0; columns = numbers h.columns }
+abbrev find_in : (port : Port) (h : Handle) (op : FindOp) (ts : List Token) (r : Request) → Parts port h op ts r → FindSpec
+find_in port h op ts r p = found_by h op (p.key).0 (p.limit).0 (p.within).0 (p.filters).0
 
 was_read : (table : TableDef) (port : Port) (h : Handle) (op : FindOp) (ts : List Token) (r : Request) (p : Parts port h op ts r) → HandleFitsTable table h → WasRead table h (find_in port h op ts r p)
-unfolding find_in
 was_read table port h op ts r p fits = record {
   table_is = refl;
   index_is = refl;
@@ -165,7 +164,6 @@ mod_of_schema schema port h ts None fits e = tt
 mod_of_schema schema port h ts (Some change) fits e = some_then _ _ (slice_get schema.tables h.table) fits (λ (t : TableDef) (f : HandleFitsTable t h). mod_fits port t h.columns ts (Some change) (recursion_from_All (IsColumnOf t.columns) h.columns f.columns) e)
 
 pub find_fits : (schema : Schema) (port : Port) (h : Handle) (op : FindOp) (ts : List Token) (r : Request) → HandleFits schema h → find_of port h op ts ≡ Ok r → RequestFits schema r
-unfolding find_in
 find_fits schema port h op ts r fits e =
     let p = parts_of port h op ts r e in
     let find : FindSpec = find_in port h op ts r p in

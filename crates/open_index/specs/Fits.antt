@@ -20,7 +20,8 @@ use Rattle.open_index.specs.Find.{numbers}
 abbrev pub IsColumnOf : List Column → OpenColumn → Type 0
 IsColumnOf columns c = IsSomeAnd (slice_get columns c.number) (λ d. d.kind ≡ c.kind)
 
--- An id stands for an index of its table, with all the index's columns, and with columns of the table: those of the first list once each.
+-- An id stands for an index of its table and all the index's columns, and for columns of both lists.
+-- Those of the first list are there once each.
 pub record HandleFitsTable (table : TableDef) (h : Handle) : Type 0 where
   pub index : IsSomeAnd (slice_get table.indexes h.index) (λ i. numbers h.parts ≡ i.parts)
   pub parts : All (IsColumnOf table.columns) h.parts
@@ -44,12 +45,14 @@ pub record InsertFitsTable (table : TableDef) (spec : InsertSpec) : Type 0 where
 
 -- An insert fits a schema that has its table.
 abbrev pub InsertFits : Schema → InsertSpec → Type 0
-InsertFits schema spec = IsSomeAnd (slice_get schema.tables spec.table) (λ t. InsertFitsTable t spec)
+InsertFits schema spec =
+    IsSomeAnd (slice_get schema.tables spec.table) (λ t. InsertFitsTable t spec)
 
 -- What is asked of the tables fits their schema.
 abbrev pub RequestFits : Schema → Request → Type 0
 RequestFits schema (Find find) = FindFits schema find
-RequestFits schema (Modify find change) = FindFits schema find × ModFits schema find.table find.columns change
+RequestFits schema (Modify find change) =
+    FindFits schema find × ModFits schema find.table find.columns change
 RequestFits schema (Insert insert) = InsertFits schema insert
 
 -- What becomes of a line fits a schema where it asks for what does.

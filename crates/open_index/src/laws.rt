@@ -20,8 +20,10 @@ pub fn example_states()
         ≡ (Opened, (1, by_id (id_column ∷ name_column ∷ n_column ∷ []) []) ∷ [], free) }
     ensures opens_again { written free (codes "P\t1\ttest\tt\tPRIMARY\t\tn")
         ≡ (Opened, opened ids 1 (by_id [] (n_column ∷ [])), free) }
-    ensures tells { written locked (codes "A\t1\tk") ≡ (Authed, ids, record locked { passed = true }) }
-    ensures tells_none { written free (codes "A\t1\tx") ≡ (Authed, ids, record free { passed = true }) }
+    ensures tells { written locked (codes "A\t1\tk")
+        ≡ (Authed, ids, record locked { passed = true }) }
+    ensures tells_none { written free (codes "A\t1\tx")
+        ≡ (Authed, ids, record free { passed = true }) }
 {}
 
 /// Lines that ask for something.

@@ -89,8 +89,8 @@ fn command_means(
     tokens: &[Token],
 ) -> Result<Meaning, Fault>
     requires { IsNumbered context.now.schema.now }
-    ensures { Gives (λ meaning. meaning) result (command_means context.now.schema.now context.now.port
-        context.now.handles.now context.now.auth.now command tokens.now) }
+    ensures { Gives (λ meaning. meaning) result (command_means context.now.schema.now
+        context.now.port context.now.handles.now context.now.auth.now command tokens.now) }
 {
     match command {
         Command::Tell => tells(context.auth, tokens),
@@ -148,11 +148,14 @@ pub fn resolve(
     line: &Bytes,
 ) -> Result<Resolved, AllocError>
     requires { IsNumbered schema.now }
-    ensures ok { IfOk result (λ resolved. (resolved, handles.new, auth.new) ≡ reads schema.now port handles.old auth.old line.now) }
+    ensures ok { IfOk result (λ resolved. (resolved, handles.new, auth.new)
+        ≡ reads schema.now port handles.old auth.old line.now) }
     ensures err { OnErr result ((handles.new ≡ handles.old) × (auth.new ≡ auth.old)) }
-    // What is asked of the tables fits their schema.
-    ensures fits { IsValid schema.now → HandlesFit schema.now handles.old → IfOk result (ResolvedFits schema.now) }
-    ensures handles_fit { IsValid schema.now → HandlesFit schema.now handles.old → HandlesFit schema.now handles.new }
+    // What is asked of the tables fits their schema, and so do the open ids behind the line.
+    ensures fits { IsValid schema.now → HandlesFit schema.now handles.old
+        → IfOk result (ResolvedFits schema.now) }
+    ensures handles_fit { IsValid schema.now → HandlesFit schema.now handles.old
+        → HandlesFit schema.now handles.new }
 {
     let context = Context {
         schema,
