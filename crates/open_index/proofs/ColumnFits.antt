@@ -1,12 +1,12 @@
 -- Columns that are a table's, and the values that stand to them by place.
-use Rattle.std.proofs.Common.{◌≡◌, ◌≤◌, ◌<◌, List, [], ◌∷◌, length, take, Option, Some, None, refl, sym, subst, arith}
+use Rattle.std.proofs.Common.{◌≡◌, ◌<◌, List, [], ◌∷◌, length, take, Option, Some, None, sym, subst}
 use Rattle.std.specs.Prelude.{IsSomeAnd, slice_get}
 use Rattle.std.specs.List.{AllByRecursion}
-use Rattle.std.proofs.lemmas.Option.{slice_get_within}
 use Rattle.row_types.specs.declared.values.Value.{Value}
 use Rattle.row_types.specs.declared.columns.Kind.{Kind}
 use Rattle.row_types.specs.declared.columns.Column.{Column}
 use Rattle.find_filter.specs.Fits.{IsAt, AreAt}
+use Rattle.find_filter.proofs.FitFacts.{is_within}
 use Rattle.open_index.specs.declared.handles.OpenColumn.{OpenColumn}
 use Rattle.open_index.specs.Find.{numbers}
 use Rattle.open_index.specs.Fits.{IsColumnOf}
@@ -30,17 +30,6 @@ at_front P columns opened [] all = tt
 at_front P columns [] (v ∷ vs) all = all
 at_front P columns (c ∷ cs) (v ∷ vs) all = (all.0, at_front P columns cs vs all.1)
 
--- No more values stand to columns than there are columns.
-pub no_more : (P : Kind → Value → Type 0) (columns : List Column) (opened : List OpenColumn) (values : List Value) →
-    AreAt P columns (numbers opened) values → length values ≤ length opened
-no_more P columns opened [] all = omega arith
-no_more P columns [] (v ∷ vs) all = absurd all
-no_more P columns (c ∷ cs) (v ∷ vs) all = omega (arith, no_more P columns cs vs all.1)
-
 -- The number of a table's column is in range.
 pub in_range : (columns : List Column) (c : OpenColumn) → IsColumnOf columns c → c.number < length columns
-in_range columns c is = go (slice_get columns c.number) refl is
-  where
-    go : (o : Option Column) → slice_get columns c.number ≡ o → IsSomeAnd o (λ d. d.kind ≡ c.kind) → c.number < length columns
-    go None e none = absurd none
-    go (Some d) e same = slice_get_within columns c.number d e
+in_range columns c is = is_within (λ (d : Column). d.kind ≡ c.kind) columns c.number is

@@ -3,7 +3,7 @@ use Rattle.std.proofs.Common.{◌≡◌, ℕ, zero, suc, ◌≤◌, Bool, true, 
 use Rattle.std.specs.Prelude.{IfSome, slice_get, ◌||◌, ◌==◌, nat_lt}
 use Rattle.std.specs.List.{AllByRecursion}
 use Rattle.std.proofs.lemmas.Bool.{ltb-false, eqb-false}
-use Rattle.std.proofs.lemmas.List.{length-take-le, length-map}
+use Rattle.std.proofs.lemmas.List.{length-take-le}
 use Rattle.hs_token.specs.declared.tokens.Token.{Token}
 use Rattle.hs_outside.specs.declared.ports.Port.{Port}
 use Rattle.row_types.specs.declared.values.Value.{Value}
@@ -17,6 +17,7 @@ use Rattle.find_filter.specs.declared.mods.ModKind.{ModKind}
 use Rattle.find_filter.specs.declared.mods.ModKind.TheVariants as mods
 use Rattle.find_filter.specs.declared.mods.ModSpec.{ModSpec}
 use Rattle.find_filter.specs.Fits.{IsOfKind, IsDelta, IsAt, AreAt, ValuesFit, ModFitsTable}
+use Rattle.find_filter.proofs.FitFacts.{no_more}
 use Rattle.open_index.specs.declared.codes.Code.TheVariants as refused
 use Rattle.open_index.specs.declared.handles.OpenColumn.{OpenColumn}
 use Rattle.open_index.specs.Refusal.{◌>>=◌, or_refuse}
@@ -24,7 +25,7 @@ use Rattle.open_index.specs.Tokens.{u32_at, front_at, number_at}
 use Rattle.open_index.specs.Values.{value_of, values_of, values_in}
 use Rattle.open_index.specs.Find.{numbers, count_at, key_at, part_at, list_len_at, list_at, within_at, filter_op, filter_of, filter_at, is_filter, next_filter, then_filters, filters_at, mod_word, mod_values, is_reading, change_of, mod_of}
 use Rattle.open_index.proofs.Cases.{bind_ok, guard_ok, refuse_ok, ok_same, some_same, or_false, all_get}
-use Rattle.open_index.proofs.ColumnFits.{AreOf, is_at, no_more}
+use Rattle.open_index.proofs.ColumnFits.{AreOf, is_at}
 use Rattle.open_index.proofs.ValueFits.{value_fits, values_count, values_fit, deltas_fit, listed_fit}
 
 -- A number of values is one at least, and no more than there are columns.
@@ -172,20 +173,20 @@ filters_fit (suc n) columns opened ts fs all e =
         subst (λ (gs : List FilterSpec × List Token). AllByRecursion (FilterFits columns) gs.0) (ok_same (f.0 ∷ (rest.0).0, (rest.0).1) fs rest.2) (next_fits columns opened ts f all is, more f.1 rest.0 rest.1)
 
 -- The values of a change that were read.
-change_fits : (kind : ModKind) (columns : List Column) (opened : List OpenColumn) (ts : List Token) (vs : List Value) → AreOf columns opened → mod_values kind opened ts ≡ Ok vs → ValuesFit kind columns (numbers opened) vs × (length vs ≤ length opened)
+change_fits : (kind : ModKind) (columns : List Column) (opened : List OpenColumn) (ts : List Token) (vs : List Value) → AreOf columns opened → mod_values kind opened ts ≡ Ok vs → ValuesFit kind columns (numbers opened) vs × (length vs ≤ length (numbers opened))
 unfolding mod_values
 change_fits mods.Update columns opened ts vs all e =
     let fit = values_fit columns opened ts vs all e in
-    (fit, no_more IsOfKind columns opened vs fit)
+    (fit, no_more IsOfKind columns (numbers opened) vs fit)
 change_fits mods.Add columns opened ts vs all e =
     let fit = deltas_fit columns opened ts vs all e in
-    (fit, no_more IsDelta columns opened vs fit)
+    (fit, no_more IsDelta columns (numbers opened) vs fit)
 change_fits mods.Subtract columns opened ts vs all e =
     let fit = deltas_fit columns opened ts vs all e in
-    (fit, no_more IsDelta columns opened vs fit)
+    (fit, no_more IsDelta columns (numbers opened) vs fit)
 change_fits mods.Remove columns opened ts vs all e =
     let none = ok_same [] vs e in
-    (sym none, subst (λ (ws : List Value). length ws ≤ length opened) none (omega arith))
+    (sym none, subst (λ (ws : List Value). length ws ≤ length (numbers opened)) none (omega arith))
 
 word_fits : (port : Port) (table : TableDef) (opened : List OpenColumn) (word : ModKind × Bool) (ts : List Token) (change : ModSpec) → AreOf table.columns opened → change_of port opened word ts ≡ Ok change → ModFitsTable table (numbers opened) change
 unfolding change_of
@@ -196,7 +197,7 @@ word_fits port table opened word ts change all e =
     let fit = change_fits word.0 table.columns opened ts values.0 all values.1 in
     let read : ModSpec = record { kind = word.0; values = values.0; show = word.1 } in
     let is : ModFitsTable table (numbers opened) read = record {
-      most = omega (arith, fit.1, length-map opened (λ (c : OpenColumn). c.number));
+      most = fit.1;
       values = fit.0;
     } in
     subst (ModFitsTable table (numbers opened)) (ok_same read change values.2) is

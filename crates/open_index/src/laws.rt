@@ -1,7 +1,7 @@
 //! Lines and what becomes of them, written out.
 ghost use Rattle.std.specs.Prelude.{◌≡◌, [], ◌∷◌, ◌++◌, pos, negsuc, codes, Some, None, true, false};
 ghost use Rattle.hs_outside.specs.declared.ports.Port.TheVariants.{Reading, Writing};
-ghost use Rattle.row_types.specs.declared.values.Value.TheVariants.{Null, Int, Text};
+ghost use Rattle.row_types.specs.declared.values.Value.TheVariants.{Null, Int};
 ghost use Rattle.find_filter.specs.declared.finds.FindOp.TheVariants as finds;
 ghost use Rattle.find_filter.specs.declared.filters.FilterOp.TheVariants as tests;
 ghost use Rattle.find_filter.specs.declared.mods.ModKind.TheVariants as mods;

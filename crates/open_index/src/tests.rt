@@ -1,5 +1,5 @@
 //! Lines and what becomes of them, as tables. The expected codes and requests are the protocol's, and none comes from a run.
-ghost use Rattle.std.specs.Prelude.{◌≡◌, length, IfOk};
+ghost use Rattle.std.specs.Prelude.{IfOk};
 ghost use Rattle.open_index.specs.Open.{IsNumbered, IsTableNumbered};
 
 use super::*;
