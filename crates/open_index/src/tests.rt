@@ -12,6 +12,7 @@ use std::fmt::Write;
 use std::process::Abort;
 use std::test::Fail;
 
+mod page;
 mod refusals;
 
 fn column(alloc: Global, name: &[u8], kind: Kind) -> Result<Column, AllocError> {
