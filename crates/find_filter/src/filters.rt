@@ -1,9 +1,10 @@
 //! Conditions on a row's columns, and what becomes of a row that fails one.
-ghost use Rattle.std.specs.Prelude.{◌≡◌, ◌<◌, length};
+ghost use Rattle.std.specs.Prelude.{◌≡◌, ◌<◌, length, IfOk};
 ghost use Rattle.std.specs.List.{All};
 ghost use Rattle.find_filter.specs.Filter.{stands, holds, failed, step_of};
 
-use row_types::{Row, Value, cmp_values};
+use row_types::{List, Row, Value, cmp_values, copy_value};
+use std::alloc::{AllocError, Global};
 
 /// How a cell has to stand to a filter's value. NULL equals NULL and stands before every other value.
 #[derive(Clone, Copy, Debug, PartialEq, Eq)]
@@ -23,6 +24,35 @@ pub struct FilterSpec {
     pub op: FilterOp,
     pub column: u32,
     pub value: Value,
+}
+
+impl FilterSpec {
+    /// An equal filter with memory of its own.
+    pub fn copy(&self, alloc: Global) -> Result<FilterSpec, AllocError>
+        ensures { IfOk result (λ copy. copy ≡ self.now) }
+    {
+        Ok(FilterSpec {
+            stop: self.stop,
+            op: self.op,
+            column: self.column,
+            value: copy_value(alloc, &self.value)?,
+        })
+    }
+}
+
+/// Equal filters in the same order, with memory of their own.
+pub(crate) fn copy_filters(
+    alloc: Global,
+    filters: &List<FilterSpec>,
+) -> Result<List<FilterSpec>, AllocError>
+    ensures { IfOk result (λ copies. copies ≡ filters.now) }
+{
+    let filters = filters.as_slice();
+    let mut copies = Vec::with_capacity(alloc, filters.len())?;
+    for filter in filters {
+        copies.push(filter.copy(alloc)?)?;
+    }
+    Ok(List::of_vec(copies))
 }
 
 /// What becomes of a row, and of the request.

@@ -1,5 +1,8 @@
 //! What happens to the selected rows.
-use row_types::{List, Value};
+ghost use Rattle.std.specs.Prelude.{◌≡◌, IfOk};
+
+use row_types::{List, Value, copy_row};
+use std::alloc::{AllocError, Global};
 
 /// How a selected row is changed.
 #[derive(Clone, Copy, Debug, PartialEq, Eq)]
@@ -20,4 +23,17 @@ pub struct ModSpec {
     pub kind: ModKind,
     pub values: List<Value>,
     pub show: bool,
+}
+
+impl ModSpec {
+    /// An equal change with memory of its own.
+    pub fn copy(&self, alloc: Global) -> Result<ModSpec, AllocError>
+        ensures { IfOk result (λ copy. copy ≡ self.now) }
+    {
+        Ok(ModSpec {
+            kind: self.kind,
+            values: copy_row(alloc, &self.values)?,
+            show: self.show,
+        })
+    }
 }

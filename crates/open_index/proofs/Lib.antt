@@ -1,2 +1,10 @@
 pub mod Loops
 pub mod Names
+pub mod Cases
+pub mod ColumnFits
+pub mod ValueFits
+pub mod PartsFit
+pub mod RequestsFit
+pub mod OpensFit
+pub mod Numbered
+pub mod ReadsFit

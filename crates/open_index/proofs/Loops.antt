@@ -1,5 +1,5 @@
 -- Reading a list one item after the other.
-use Rattle.std.proofs.Common.{◌≡◌, ◌∙◌, ℕ, zero, suc, ◌-◌, ◌+◌, ◌<◌, List, [], ◌∷◌, ◌++◌, Option, Some, None, Result, Ok, Err, refl, sym, ap, append_assoc, append-nil, ◌≤◌, arith}
+use Rattle.std.proofs.Common.{◌≡◌, ◌∙◌, ℕ, zero, suc, ◌-◌, ◌+◌, ◌<◌, List, [], ◌∷◌, ◌++◌, Some, None, Result, Ok, Err, refl, sym, ap, append_assoc, append-nil, ◌≤◌, arith}
 use Rattle.hs_token.specs.declared.tokens.Token.{Token}
 use Rattle.find_filter.specs.declared.filters.FilterSpec.{FilterSpec}
 use Rattle.open_index.specs.declared.codes.Code.{Code}

@@ -1,15 +1,11 @@
 -- A schema, open ids and lines, written out.
-use Rattle.std.specs.Prelude.{ℕ, List, [], ◌∷◌, codes, Option, Some, None, true, false, pos}
-use Rattle.hs_outside.specs.declared.ports.Port.{Port}
+use Rattle.std.specs.Prelude.{ℕ, List, [], ◌∷◌, codes, Some, None, true, false, pos}
 use Rattle.hs_outside.specs.declared.ports.Port.TheVariants.{Writing}
 use Rattle.row_types.specs.declared.columns.Column.{Column}
-use Rattle.row_types.specs.declared.columns.Kind.{Kind}
 use Rattle.row_types.specs.declared.columns.Kind.TheVariants.{Int, Bytes}
 use Rattle.row_types.specs.declared.indexes.IndexDef.{IndexDef}
 use Rattle.row_types.specs.declared.indexes.IndexKind.TheVariants as kinds
-use Rattle.row_types.specs.declared.tables.TableDef.{TableDef}
 use Rattle.row_types.specs.declared.tables.Schema.{Schema}
-use Rattle.row_types.specs.declared.values.Value.{Value}
 use Rattle.row_types.specs.declared.values.Value.TheVariants as values
 use Rattle.open_index.specs.declared.handles.Handle.{Handle}
 use Rattle.open_index.specs.declared.handles.OpenColumn.{OpenColumn}
@@ -32,7 +28,14 @@ people_indexes =
 
 -- It is the only table.
 abbrev pub people : Schema
-people = record { tables = record { db = codes "test"; name = codes "t"; columns = people_columns; indexes = people_indexes } ∷ [] }
+people = record {
+  tables = record {
+    db = codes "test";
+    name = codes "t";
+    columns = people_columns;
+    indexes = people_indexes;
+  } ∷ [];
+}
 
 -- Its columns, as an open id has them.
 abbrev pub id_column : OpenColumn
@@ -48,8 +51,13 @@ n_column = record { number = 2; kind = Int }
 
 -- The primary index, opened on these columns and these for filters.
 abbrev pub by_id : List OpenColumn → List OpenColumn → Handle
-by_id columns filter_columns =
-    record { table = 0; index = 0; parts = id_column ∷ []; columns = columns; filter_columns = filter_columns }
+by_id columns filter_columns = record {
+  table = 0;
+  index = 0;
+  parts = id_column ∷ [];
+  columns = columns;
+  filter_columns = filter_columns;
+}
 
 -- The id 1 stands for it with the columns `id`, `name` and `n`, the id 3 with `id`, and `n` and `id` for filters.
 abbrev pub ids : List (ℕ × Handle)

@@ -1,5 +1,5 @@
 -- Reading a find, part by part: `<vlen> <v1>..<vn> [LIM] [IN] [FILTER ..] [MOD]`.
-use Rattle.std.specs.Prelude.{ℕ, zero, suc, List, [], ◌∷◌, length, map, take, codes, slice_get, Option, Some, None, Result, Ok, Err, Bool, true, false, ◌==◌, ◌||◌, nat_lt, is_some, if◌then◌else◌}
+use Rattle.std.specs.Prelude.{ℕ, zero, suc, List, [], ◌∷◌, length, map, take, codes, slice_get, Option, Some, None, Result, Ok, Err, Bool, true, false, ◌==◌, ◌||◌, nat_lt, if◌then◌else◌}
 use Rattle.hs_token.specs.declared.tokens.Token.{Token}
 use Rattle.hs_outside.specs.declared.ports.Port.{Port}
 use Rattle.hs_outside.specs.declared.ports.Port.TheVariants as ports
@@ -73,13 +73,17 @@ list_len_at ts = number_at ts >>= λ n. if n.0 == 0 then Err refused.In else Ok 
 unfoldable pub list_at : FindOp → List OpenColumn → List Token → Result (InSpec × List Token) Code
 list_at op key_parts ts = number_at ts >>= λ place. part_at op key_parts place.0 >>= λ part.
     list_len_at place.1 >>= λ n. front_at n.0 n.1 >>= λ front.
-    values_in part.kind front.0 >>= λ values. Ok (record { part = place.0; values = values }, front.1)
+    values_in part.kind front.0 >>= λ values.
+    Ok (record { part = place.0; values = values }, front.1)
 
 -- IN, where the next token is `@`.
-unfoldable pub within_at : FindOp → List OpenColumn → List Token → Result (Option InSpec × List Token) Code
+unfoldable pub within_at : FindOp → List OpenColumn → List Token →
+    Result (Option InSpec × List Token) Code
 within_at op key_parts [] = Ok (None, [])
 within_at op key_parts (t ∷ ts) =
-    if is_word (codes "@") t then (list_at op key_parts ts >>= λ within. Ok (Some within.0, within.1)) else Ok (None, t ∷ ts)
+    if is_word (codes "@") t then
+    (list_at op key_parts ts >>= λ within. Ok (Some within.0, within.1))
+    else Ok (None, t ∷ ts)
 
 -- The operator of a filter.
 abbrev pub filter_op : Token → Option FilterOp
@@ -99,26 +103,34 @@ is_filter t = is_word (codes "F") t || is_word (codes "W") t
 -- A filter by its tokens: the operator, the column by its place among those opened for filters, and the value.
 unfoldable pub filter_of : List OpenColumn → Bool → Token → Token → Token → Result FilterSpec Code
 filter_of columns stop op place token = or_refuse refused.Filter (filter_op op) >>= λ o.
-    or_refuse refused.Args (u32_at place) >>= λ n. or_refuse refused.Filter (slice_get columns n) >>= λ c.
+    or_refuse refused.Args (u32_at place) >>= λ n.
+    or_refuse refused.Filter (slice_get columns n) >>= λ c.
     value_of c.kind token >>= λ v. Ok (record { stop = stop; op = o; column = c.number; value = v })
 
 -- A filter behind its first token: `<fop> <fcol> <fval>`.
-unfoldable pub filter_at : List OpenColumn → Bool → List Token → Result (FilterSpec × List Token) Code
-filter_at columns stop (op ∷ place ∷ token ∷ ts) = filter_of columns stop op place token >>= λ f. Ok (f, ts)
+unfoldable pub filter_at : List OpenColumn → Bool → List Token →
+    Result (FilterSpec × List Token) Code
+filter_at columns stop (op ∷ place ∷ token ∷ ts) =
+    filter_of columns stop op place token >>= λ f. Ok (f, ts)
 filter_at columns stop _ = Err refused.Args
 
 -- The next filter and what follows it, where the next token begins one.
-unfoldable pub next_filter : List OpenColumn → List Token → Result (Option (FilterSpec × List Token)) Code
+unfoldable pub next_filter : List OpenColumn → List Token →
+    Result (Option (FilterSpec × List Token)) Code
 next_filter columns [] = Ok None
-next_filter columns (t ∷ ts) = if is_filter t then (filter_at columns (is_word (codes "W") t) ts >>= λ f. Ok (Some f)) else Ok None
+next_filter columns (t ∷ ts) =
+    if is_filter t then (filter_at columns (is_word (codes "W") t) ts >>= λ f. Ok (Some f))
+    else Ok None
 
 -- A filter, and those that are read behind it. Without one the tokens are left.
-abbrev pub then_filters : (List Token → Result (List FilterSpec × List Token) Code) → List Token → Option (FilterSpec × List Token) → Result (List FilterSpec × List Token) Code
+abbrev pub then_filters : (List Token → Result (List FilterSpec × List Token) Code) →
+    List Token → Option (FilterSpec × List Token) → Result (List FilterSpec × List Token) Code
 then_filters more ts None = Ok ([], ts)
 then_filters more ts (Some f) = more f.1 >>= λ fs. Ok (f.0 ∷ fs.0, fs.1)
 
 -- Filters, as long as the next token begins one, but no more than so many.
-unfoldable pub filters_at : ℕ → List OpenColumn → List Token → Result (List FilterSpec × List Token) Code
+unfoldable pub filters_at : ℕ → List OpenColumn → List Token →
+    Result (List FilterSpec × List Token) Code
 filters_at zero columns ts = Ok ([], ts)
 filters_at (suc n) columns ts = next_filter columns ts >>= then_filters (filters_at n columns) ts
 
@@ -149,11 +161,13 @@ is_reading ports.Writing = false
 is_reading ports.Sql = false
 
 -- MOD behind its word: all the tokens that are left are its values. The reading port changes nothing.
-unfoldable pub change_of : Port → List OpenColumn → ModKind × Bool → List Token → Result ModSpec Code
+unfoldable pub change_of : Port → List OpenColumn → ModKind × Bool → List Token →
+    Result ModSpec Code
 change_of port columns word ts =
     if is_reading port then Err refused.ReadOnly
     else if nat_lt (length columns) (length ts) then Err refused.Mod
-    else mod_values word.0 columns ts >>= λ values. Ok (record { kind = word.0; values = values; show = word.1 })
+    else mod_values word.0 columns ts >>= λ values.
+    Ok (record { kind = word.0; values = values; show = word.1 })
 
 -- MOD, if a token is left. A token that begins no part of a line is refused.
 unfoldable pub mod_of : Port → List OpenColumn → List Token → Result (Option ModSpec) Code
@@ -170,20 +184,25 @@ asked find (Some change) = Modify find change
 abbrev pub numbers : List OpenColumn → List ℕ
 numbers columns = map (λ (c : OpenColumn). c.number) columns
 
+-- The find that its parts make, on what the id stands for.
+abbrev pub found_by : Handle → FindOp → List Value → ℕ × ℕ → Option InSpec →
+    List FilterSpec → FindSpec
+found_by h op key limit within filters = record {
+  table = h.table;
+  index = h.index;
+  op = op;
+  key = key;
+  within = within;
+  limit = limit.0;
+  offset = limit.1;
+  filters = filters;
+  columns = numbers h.columns;
+}
+
 -- The parts of a find, from left to right.
 unfoldable pub find_of : Port → Handle → FindOp → List Token → Result Request Code
 find_of port h op ts = key_at h.parts ts >>= λ key. limit_at key.1 >>= λ limit.
     within_at op (take (length key.0) h.parts) limit.1 >>= λ within.
     filters_at (length within.1) h.filter_columns within.1 >>= λ filters.
     mod_of port h.columns filters.1 >>= λ change.
-    Ok (asked (record {
-      table = h.table;
-      index = h.index;
-      op = op;
-      key = key.0;
-      within = within.0;
-      limit = (limit.0).0;
-      offset = (limit.0).1;
-      filters = filters.0;
-      columns = numbers h.columns;
-    }) change)
+    Ok (asked (found_by h op key.0 limit.0 within.0 filters.0) change)

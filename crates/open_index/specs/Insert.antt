@@ -19,5 +19,9 @@ rest_of ts n = if length ts == n then Ok ts else Err refused.Args
 unfoldable pub insert_of : Port → Handle → List Token → Result Request Code
 insert_of port h ts =
     if is_reading port then Err refused.ReadOnly
-    else count_at h.columns ts >>= λ n. rest_of n.1 n.0 >>= λ tokens. values_of h.columns tokens >>= λ values.
-    Ok (Insert (record { table = h.table; columns = numbers (take n.0 h.columns); values = values }))
+    else count_at h.columns ts >>= λ n. rest_of n.1 n.0 >>= λ tokens.
+    values_of h.columns tokens >>= λ values. Ok (Insert (record {
+      table = h.table;
+      columns = numbers (take n.0 h.columns);
+      values = values;
+    }))

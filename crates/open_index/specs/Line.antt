@@ -1,9 +1,6 @@
 -- What a line means, and what becomes of it.
-use Rattle.std.specs.Prelude.{ℕ, List, [], ◌∷◌, codes, Option, Some, None, Result, Ok, Err, Bool, true, false, not, nat_eq, ◌&&◌, is_some, if◌then◌else◌}
-use Rattle.std.specs.Cmp.Lexicographic.{pointwise}
+use Rattle.std.specs.Prelude.{ℕ, List, [], ◌∷◌, codes, Option, Some, None, Result, Ok, Err, Bool, true, not, ◌&&◌, is_some, if◌then◌else◌}
 use Rattle.hs_token.specs.declared.tokens.Token.{Token}
-use Rattle.hs_token.specs.declared.tokens.Token.TheVariants.{Null, Text}
-use Rattle.hs_token.specs.Number.{u32_of}
 use Rattle.hs_token.specs.Reading.{line_at}
 use Rattle.hs_outside.specs.declared.ports.Port.{Port}
 use Rattle.row_types.specs.declared.tables.Schema.{Schema}
@@ -62,7 +59,8 @@ abbrev pub is_locked : Auth → Bool
 is_locked auth = is_some auth.secret && not auth.passed
 
 -- What a command means, from its other tokens.
-unfoldable pub command_means : Schema → Port → List (ℕ × Handle) → Auth → Command → List Token → Result Meaning Code
+unfoldable pub command_means : Schema → Port → List (ℕ × Handle) → Auth → Command →
+    List Token → Result Meaning Code
 command_means schema port handles auth commands.Tell ts = tells auth ts
 command_means schema port handles auth commands.Open ts =
     if is_locked auth then Err refused.Unauth
@@ -72,24 +70,32 @@ command_means schema port handles auth (commands.Use id) ts =
     else request_of port handles id ts >>= λ r. Ok (means.Asks r)
 
 -- What the tokens of a line mean. Every line has one.
-unfoldable pub tokens_mean : Schema → Port → List (ℕ × Handle) → Auth → List Token → Result Meaning Code
+unfoldable pub tokens_mean : Schema → Port → List (ℕ × Handle) → Auth → List Token →
+    Result Meaning Code
 tokens_mean schema port handles auth [] = Err refused.Cmd
-tokens_mean schema port handles auth (t ∷ ts) = command_of t >>= λ c. command_means schema port handles auth c ts
+tokens_mean schema port handles auth (t ∷ ts) =
+    command_of t >>= λ c. command_means schema port handles auth c ts
+
+-- The tokens that a line spells. A line that spells none is refused.
+abbrev pub spelled : Result (List Token) ℕ → Result (List Token) Code
+spelled (Err place) = Err refused.Token
+spelled (Ok ts) = Ok ts
 
 -- What a line means.
 unfoldable pub line_means : Schema → Port → List (ℕ × Handle) → Auth → List ℕ → Result Meaning Code
-line_means schema port handles auth line = of_tokens (line_at line) where
-  of_tokens : Result (List Token) ℕ → Result Meaning Code
-  of_tokens (Err place) = Err refused.Token
-  of_tokens (Ok ts) = tokens_mean schema port handles auth ts
+line_means schema port handles auth line =
+    spelled (line_at line) >>= tokens_mean schema port handles auth
 
 -- What becomes of a line, with the open ids and the auth behind it. A refused line changes neither.
-abbrev pub becomes : List (ℕ × Handle) → Auth → Result Meaning Code → Resolved × List (ℕ × Handle) × Auth
+abbrev pub becomes : List (ℕ × Handle) → Auth → Result Meaning Code →
+    Resolved × List (ℕ × Handle) × Auth
 becomes handles auth (Err code) = (became.Reply (number code), handles, auth)
 becomes handles auth (Ok (means.Opens id handle)) = (became.Opened, opened handles id handle, auth)
 becomes handles auth (Ok means.Tells) = (became.Authed, handles, record auth { passed = true })
 becomes handles auth (Ok (means.Asks request)) = (became.Ask request, handles, auth)
 
 -- Reading a line by the schema, the port, and what the connection's earlier lines left.
-abbrev pub reads : Schema → Port → List (ℕ × Handle) → Auth → List ℕ → Resolved × List (ℕ × Handle) × Auth
-reads schema port handles auth line = becomes handles auth (line_means schema port handles auth line)
+abbrev pub reads : Schema → Port → List (ℕ × Handle) → Auth → List ℕ →
+    Resolved × List (ℕ × Handle) × Auth
+reads schema port handles auth line =
+    becomes handles auth (line_means schema port handles auth line)

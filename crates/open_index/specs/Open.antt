@@ -1,5 +1,5 @@
 -- Opening an index: `P <indexid> <db> <table> <index> <columns> [<fcolumns>]`.
-use Rattle.std.specs.Prelude.{ℕ, ◌+◌, List, [], ◌∷◌, ◌++◌, length, map, slice_get, Option, Some, None, option_map, Result, Ok, Err, Bool, true, false, ◌==◌, ◌<◌, ◌^◌, ◌&&◌, ◌||◌, not, nat_eq, nat_lt, nat_le, is_some, if◌then◌else◌}
+use Rattle.std.specs.Prelude.{ℕ, ◌+◌, List, [], ◌∷◌, ◌++◌, length, map, slice_get, Option, Some, None, Result, Ok, Err, Bool, ◌==◌, ◌<◌, ◌^◌, ◌&&◌, ◌||◌, nat_eq, nat_lt, is_some, if◌then◌else◌}
 use Rattle.std.specs.List.{slice_split, list_any, All}
 use Rattle.std.specs.Ordering.{nat_cmp}
 use Rattle.std.specs.BTreeMap.{is_at, insert_entry}
@@ -35,17 +35,21 @@ is_name name token = is_word name token
 -- The first table with these two names, and its number, where the list begins with this number.
 abbrev pub table_named : ℕ → List TableDef → Token → Token → Option (ℕ × TableDef)
 table_named n [] db name = None
-table_named n (t ∷ ts) db name = if is_name t.db db && is_name t.name name then Some (n, t) else table_named (n + 1) ts db name
+table_named n (t ∷ ts) db name =
+    if is_name t.db db && is_name t.name name then Some (n, t) else table_named (n + 1) ts db name
 
 -- The first index of this name, and its number.
 abbrev pub index_named : ℕ → List IndexDef → Token → Option (ℕ × IndexDef)
 index_named n [] name = None
-index_named n (i ∷ is) name = if is_name i.name name then Some (n, i) else index_named (n + 1) is name
+index_named n (i ∷ is) name =
+    if is_name i.name name then Some (n, i) else index_named (n + 1) is name
 
 -- The first column of this name, as an open column.
 abbrev pub column_named : ℕ → List Column → List ℕ → Option OpenColumn
 column_named n [] name = None
-column_named n (c ∷ cs) name = if pointwise nat_eq c.name name then Some (record { number = n; kind = c.kind }) else column_named (n + 1) cs name
+column_named n (c ∷ cs) name =
+    if pointwise nat_eq c.name name then Some (record { number = n; kind = c.kind })
+    else column_named (n + 1) cs name
 
 -- The names of a list: the pieces of the text between commas, and none of the empty text.
 abbrev pub names_of : List ℕ → List (List ℕ)
@@ -62,9 +66,11 @@ column_onto columns found name = or_refuse refused.Column (column_named 0 column
     if is_listed found c.number then Err refused.Column else Ok (found ++ c ∷ [])
 
 -- The columns that were found, and those of the names behind them.
-unfoldable pub columns_onto : List Column → List OpenColumn → List (List ℕ) → Result (List OpenColumn) Code
+unfoldable pub columns_onto : List Column → List OpenColumn → List (List ℕ) →
+    Result (List OpenColumn) Code
 columns_onto columns found [] = Ok found
-columns_onto columns found (name ∷ names) = column_onto columns found name >>= λ more. columns_onto columns more names
+columns_onto columns found (name ∷ names) =
+    column_onto columns found name >>= λ more. columns_onto columns more names
 
 -- The columns that a token lists. NULL is no list.
 unfoldable pub columns_of : List Column → Token → Result (List OpenColumn) Code
@@ -86,15 +92,25 @@ filter_columns_of columns (t ∷ ts) = columns_of columns t
 -- The lists behind an index's name: the columns, then those for filters.
 unfoldable pub lists_of : List Column → List Token → Result (List OpenColumn × List OpenColumn) Code
 lists_of columns [] = Err refused.Args
-lists_of columns (t ∷ ts) = columns_of columns t >>= λ cs. filter_columns_of columns ts >>= λ fs. Ok (cs, fs)
+lists_of columns (t ∷ ts) =
+    columns_of columns t >>= λ cs. filter_columns_of columns ts >>= λ fs. Ok (cs, fs)
+
+-- What an id stands for, by its table, its index and the columns of its lists.
+abbrev pub handle_by : ℕ × TableDef → ℕ × IndexDef → List OpenColumn × List OpenColumn → Handle
+handle_by t i cs = record {
+  table = t.0;
+  index = i.0;
+  parts = map (part_of (t.1).columns) (i.1).parts;
+  columns = cs.0;
+  filter_columns = cs.1;
+}
 
 -- What an id will stand for: the index by its names, and the columns of its lists.
 unfoldable pub handle_of : Schema → Token → Token → Token → List Token → Result Handle Code
 handle_of schema db name index lists =
     or_refuse refused.Table (table_named 0 schema.tables db name) >>= λ t.
     or_refuse refused.Index (index_named 0 (t.1).indexes index) >>= λ i.
-    lists_of (t.1).columns lists >>= λ cs.
-    Ok (record { table = t.0; index = i.0; parts = map (part_of (t.1).columns) (i.1).parts; columns = cs.0; filter_columns = cs.1 })
+    lists_of (t.1).columns lists >>= λ cs. Ok (handle_by t i cs)
 
 -- At most so many ids are open at a time.
 abbrev pub most_open : ℕ
@@ -112,7 +128,8 @@ with_room handles id handle = if has_room handles id then Ok (id, handle) else E
 unfoldable pub open_of : Schema → List (ℕ × Handle) → List Token → Result (ℕ × Handle) Code
 open_of schema handles (id ∷ db ∷ name ∷ index ∷ lists) =
     if length lists == 1 || length lists == 2 then
-    (or_refuse refused.Args (u32_at id) >>= λ n. handle_of schema db name index lists >>= λ h. with_room handles n h)
+    (or_refuse refused.Args (u32_at id) >>= λ n.
+    handle_of schema db name index lists >>= λ h. with_room handles n h)
     else Err refused.Args
 open_of schema handles _ = Err refused.Args
 

@@ -1,5 +1,5 @@
 -- A part of a line is read, or the line is refused with a code.
-use Rattle.std.specs.Prelude.{◌≡◌, Option, Some, None, Result, Ok, Err, Bool, true, false}
+use Rattle.std.specs.Prelude.{◌≡◌, Option, Some, None, Result, Ok, Err}
 use Rattle.open_index.specs.declared.codes.Code.{Code}
 use Rattle.open_index.specs.declared.faults.Fault.{Fault}
 use Rattle.open_index.specs.declared.faults.Fault.TheVariants.{Refused, NoMemory}

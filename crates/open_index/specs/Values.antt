@@ -1,5 +1,5 @@
 -- The values that tokens write for columns.
-use Rattle.std.specs.Prelude.{ℕ, ℤ, List, [], ◌∷◌, Option, Some, None, Result, Ok, Err, option_map}
+use Rattle.std.specs.Prelude.{List, [], ◌∷◌, Result, Ok, Err, option_map}
 use Rattle.hs_token.specs.declared.tokens.Token.{Token}
 use Rattle.hs_token.specs.declared.tokens.Token.TheVariants.{Null, Text}
 use Rattle.hs_token.specs.Number.{i64_of}

@@ -1,14 +1,17 @@
 //! Lines and what becomes of them, written out.
 ghost use Rattle.std.specs.Prelude.{◌≡◌, [], ◌∷◌, ◌++◌, pos, negsuc, codes, Some, None, true, false};
 ghost use Rattle.hs_outside.specs.declared.ports.Port.TheVariants.{Reading, Writing};
-ghost use Rattle.row_types.specs.declared.values.Value.TheVariants.{Null, Int, Text};
+ghost use Rattle.row_types.specs.declared.values.Value.TheVariants.{Null, Int};
 ghost use Rattle.find_filter.specs.declared.finds.FindOp.TheVariants as finds;
 ghost use Rattle.find_filter.specs.declared.filters.FilterOp.TheVariants as tests;
 ghost use Rattle.find_filter.specs.declared.mods.ModKind.TheVariants as mods;
 ghost use Rattle.open_index.specs.declared.requests.Request.TheVariants.{Find, Modify, Insert};
 ghost use Rattle.open_index.specs.declared.requests.Resolved.TheVariants.{Reply, Opened, Authed, Ask};
-ghost use Rattle.open_index.specs.Open.{opened};
+ghost use Rattle.row_types.specs.declared.tables.Schema.{Schema};
+ghost use Rattle.row_types.specs.Valid.{IsValid};
+ghost use Rattle.open_index.specs.Open.{opened, IsNumbered};
 ghost use Rattle.open_index.specs.Line.{reads};
+ghost use Rattle.open_index.specs.Fits.{HandlesFit};
 ghost use Rattle.open_index.specs.Examples.{people, by_id, id_column, name_column, n_column, ids, free, locked, written};
 
 /// Lines that open an index or tell a secret.
@@ -17,8 +20,10 @@ pub fn example_states()
         ≡ (Opened, (1, by_id (id_column ∷ name_column ∷ n_column ∷ []) []) ∷ [], free) }
     ensures opens_again { written free (codes "P\t1\ttest\tt\tPRIMARY\t\tn")
         ≡ (Opened, opened ids 1 (by_id [] (n_column ∷ [])), free) }
-    ensures tells { written locked (codes "A\t1\tk") ≡ (Authed, ids, record locked { passed = true }) }
-    ensures tells_none { written free (codes "A\t1\tx") ≡ (Authed, ids, record free { passed = true }) }
+    ensures tells { written locked (codes "A\t1\tk")
+        ≡ (Authed, ids, record locked { passed = true }) }
+    ensures tells_none { written free (codes "A\t1\tx")
+        ≡ (Authed, ids, record free { passed = true }) }
 {}
 
 /// Lines that ask for something.
@@ -93,4 +98,11 @@ pub fn example_refusals()
     ensures cut { written free (codes "3\t=\t1\t1\tF\t=\t0") ≡ (Reply 2, ids, free) }
     ensures text { written free (codes "1\t=\t1\t1\t+\t1\t1") ≡ (Reply 14, ids, free) }
     ensures reading { reads people Reading ids free (codes "1\t+\tx") ≡ (Reply 9, ids, free) }
+{}
+
+/// Every valid schema has numbers of 32 bits, and there are open ids that fit one.
+pub fn schemas_that_fit()
+    ensures numbered { (schema : Schema) → IsValid schema → IsNumbered schema }
+    ensures valid { IsValid people }
+    ensures ids { HandlesFit people ids }
 {}

@@ -30,6 +30,6 @@ mod values;
 
 pub use codes::Code;
 pub use handles::{Handle, Handles, MOST_OPEN, OpenColumn, handles_new};
-pub use laws::{example_refusals, example_requests, example_states};
+pub use laws::{example_refusals, example_requests, example_states, schemas_that_fit};
 pub use lines::resolve;
 pub use requests::{Auth, InsertSpec, Request, Resolved};

@@ -2,6 +2,8 @@
 ghost use Rattle.std.specs.Prelude.{◌≡◌, IfOk, OnErr};
 ghost use Rattle.open_index.specs.Refusal.{Gives};
 ghost use Rattle.open_index.specs.Open.{IsNumbered};
+ghost use Rattle.row_types.specs.Valid.{IsValid};
+ghost use Rattle.open_index.specs.Fits.{HandlesFit, ResolvedFits};
 ghost use Rattle.open_index.specs.Line.{command_of, is_secret, tells, is_locked, command_means, tokens_mean, line_means, reads};
 
 use crate::codes::Code;
@@ -87,8 +89,8 @@ fn command_means(
     tokens: &[Token],
 ) -> Result<Meaning, Fault>
     requires { IsNumbered context.now.schema.now }
-    ensures { Gives (λ meaning. meaning) result (command_means context.now.schema.now context.now.port
-        context.now.handles.now context.now.auth.now command tokens.now) }
+    ensures { Gives (λ meaning. meaning) result (command_means context.now.schema.now
+        context.now.port context.now.handles.now context.now.auth.now command tokens.now) }
 {
     match command {
         Command::Tell => tells(context.auth, tokens),
@@ -146,8 +148,14 @@ pub fn resolve(
     line: &Bytes,
 ) -> Result<Resolved, AllocError>
     requires { IsNumbered schema.now }
-    ensures ok { IfOk result (λ resolved. (resolved, handles.new, auth.new) ≡ reads schema.now port handles.old auth.old line.now) }
+    ensures ok { IfOk result (λ resolved. (resolved, handles.new, auth.new)
+        ≡ reads schema.now port handles.old auth.old line.now) }
     ensures err { OnErr result ((handles.new ≡ handles.old) × (auth.new ≡ auth.old)) }
+    // What is asked of the tables fits their schema, and so do the open ids behind the line.
+    ensures fits { IsValid schema.now → HandlesFit schema.now handles.old
+        → IfOk result (ResolvedFits schema.now) }
+    ensures handles_fit { IsValid schema.now → HandlesFit schema.now handles.old
+        → HandlesFit schema.now handles.new }
 {
     let context = Context {
         schema,

@@ -16,7 +16,8 @@ use std::alloc::{AllocError, Global};
 fn table_named<'s>(tables: &'s [TableDef], db: &Token, name: &Token) -> Option<(u32, &'s TableDef)>
     requires few { length tables.now < 2 ^ 32 }
     requires each { All IsTableNumbered tables.now }
-    ensures first { option_map (λ x. (x.0, x.1.now)) result ≡ table_named 0 tables.now db.now name.now }
+    ensures first { option_map (λ x. (x.0, x.1.now)) result
+        ≡ table_named 0 tables.now db.now name.now }
     ensures numbered { IfSome result (λ x. IsTableNumbered x.1.now) }
 {
     for (number, table) in tables.iter().enumerate() {
@@ -77,7 +78,8 @@ fn is_listed(found: &[OpenColumn], number: u32) -> bool
 #[tactic(auto, unfolding(crate::specs::Open::column_onto))]
 fn column_onto(columns: &[Column], found: &mut Vec<OpenColumn>, name: &[u8]) -> Result<(), Fault>
     requires { length columns.now < 2 ^ 32 }
-    ensures { Gives (λ _. found.new.items) result (column_onto columns.now found.old.items name.now) }
+    ensures { Gives (λ _. found.new.items) result
+        (column_onto columns.now found.old.items name.now) }
 {
     let Some(column) = column_named(columns, name) else {
         return Err(Fault::Refused(Code::Column));
@@ -96,7 +98,8 @@ fn columns_onto(
     names: &[&[u8]],
 ) -> Result<(), Fault>
     requires { length columns.now < 2 ^ 32 }
-    ensures { Gives (λ _. found.new.items) result (columns_onto columns.now found.old.items (map (λ name. name.now) names.now)) }
+    ensures { Gives (λ _. found.new.items) result
+        (columns_onto columns.now found.old.items (map (λ name. name.now) names.now)) }
 {
     for name in names {
         column_onto(columns, found, name)?;
@@ -189,7 +192,8 @@ fn handle_of(
     lists: &[Token],
 ) -> Result<Handle, Fault>
     requires { IsNumbered schema.now }
-    ensures { Gives (λ handle. handle) result (handle_of schema.now db.now name.now index.now lists.now) }
+    ensures { Gives (λ handle. handle) result
+        (handle_of schema.now db.now name.now index.now lists.now) }
 {
     let Some((table, def)) = table_named(schema.tables.as_slice(), db, name) else {
         return Err(Fault::Refused(Code::Table));

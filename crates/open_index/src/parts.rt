@@ -164,7 +164,8 @@ fn filter_of(
     place: &Token,
     value: &Token,
 ) -> Result<FilterSpec, Fault>
-    ensures { Gives (λ filter. filter) result (filter_of columns.now stop op.now place.now value.now) }
+    ensures { Gives (λ filter. filter) result
+        (filter_of columns.now stop op.now place.now value.now) }
 {
     let Some(op) = filter_op(op) else {
         return Err(Fault::Refused(Code::Filter));
@@ -226,7 +227,8 @@ pub(crate) fn filters_at<'t>(
     columns: &[OpenColumn],
     tokens: &'t [Token],
 ) -> Result<(List<FilterSpec>, &'t [Token]), Fault>
-    ensures { Gives (λ x. (x.0, x.1.now)) result (filters_at (length tokens.now) columns.now tokens.now) }
+    ensures { Gives (λ x. (x.0, x.1.now)) result
+        (filters_at (length tokens.now) columns.now tokens.now) }
 {
     let mut filters = Vec::new(alloc);
     let mut rest = tokens;

@@ -1,6 +1,9 @@
 //! What a line asks for, and what becomes of it.
+ghost use Rattle.std.specs.Prelude.{◌≡◌, IfOk};
+
 use find_filter::{FindSpec, ModSpec};
-use row_types::{ByteText, List, Value};
+use row_types::{ByteText, List, Value, copy_row};
+use std::alloc::{AllocError, Global};
 
 /// A row to be inserted. The other columns take their presets.
 #[derive(Debug, Drop)]
@@ -11,6 +14,20 @@ pub struct InsertSpec {
     pub values: List<Value>,
 }
 
+impl InsertSpec {
+    /// An equal row with memory of its own.
+    pub fn copy(&self, alloc: Global) -> Result<InsertSpec, AllocError>
+        ensures { IfOk result (λ copy. copy ≡ self.now) }
+    {
+        let columns = Vec::from_slice(alloc, self.columns.as_slice())?;
+        Ok(InsertSpec {
+            table: self.table,
+            columns: List::of_vec(columns),
+            values: copy_row(alloc, &self.values)?,
+        })
+    }
+}
+
 /// What is asked of the tables.
 #[derive(Debug, Drop)]
 pub enum Request {
@@ -18,6 +35,21 @@ pub enum Request {
     /// A change of the rows that the find selects.
     Modify(FindSpec, ModSpec),
     Insert(InsertSpec),
+}
+
+impl Request {
+    /// An equal request with memory of its own.
+    pub fn copy(&self, alloc: Global) -> Result<Request, AllocError>
+        ensures { IfOk result (λ copy. copy ≡ self.now) }
+    {
+        match self {
+            Request::Find(find) => Ok(Request::Find(find.copy(alloc)?)),
+            Request::Modify(find, change) => {
+                Ok(Request::Modify(find.copy(alloc)?, change.copy(alloc)?))
+            }
+            Request::Insert(insert) => Ok(Request::Insert(insert.copy(alloc)?)),
+        }
+    }
 }
 
 /// What becomes of a line.

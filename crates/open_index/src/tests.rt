@@ -1,5 +1,5 @@
 //! Lines and what becomes of them, as tables. The expected codes and requests are the protocol's, and none comes from a run.
-ghost use Rattle.std.specs.Prelude.{◌≡◌, length, IfOk};
+ghost use Rattle.std.specs.Prelude.{IfOk};
 ghost use Rattle.open_index.specs.Open.{IsNumbered, IsTableNumbered};
 
 use super::*;
@@ -11,6 +11,9 @@ use std::alloc::{AllocError, Global};
 use std::fmt::Write;
 use std::process::Abort;
 use std::test::Fail;
+
+mod page;
+mod refusals;
 
 fn column(alloc: Global, name: &[u8], kind: Kind) -> Result<Column, AllocError> {
     Ok(Column {
@@ -179,122 +182,6 @@ fn spell_value(out: &mut String, value: &Value) -> Result<(), AllocError> {
     }
 }
 
-/// Lines of the writing port and the codes of their refusals, in the order of the checks.
-static REFUSED: [(&[u8], &str); 88] = [
-    // No tokens are spelled so.
-    (b"1\t=\t1\t1\r", "4"),
-    (b"1\t=\t1\t\x01", "4"),
-    (b"x\x00", "4"),
-    // No `P`, no `A` and no number.
-    (b"", "1"),
-    (b"\x00", "1"),
-    (b"x", "1"),
-    (b"p\t8\ttest\tt\tPRIMARY\tid", "1"),
-    (b"-1\t=\t1\t1", "1"),
-    (b"4294967296\t=\t1\t1", "1"),
-    // P: the number of tokens, the id, the table, the index, the lists.
-    (b"P", "2"),
-    (b"P\t8\ttest\tt\tPRIMARY", "2"),
-    (b"P\t8\ttest\tt\tPRIMARY\tid\tn\tn", "2"),
-    (b"P\tx\tno\tt\tPRIMARY\tid", "2"),
-    (b"P\t\x00\ttest\tt\tPRIMARY\tid", "2"),
-    (b"P\t8\ttest\tu\tnope\tz", "6"),
-    (b"P\t8\ttes\tt\tPRIMARY\tid", "6"),
-    (b"P\t8\t\x00\tt\tPRIMARY\tid", "6"),
-    (b"P\t8\ttest\t\x00\tPRIMARY\tid", "6"),
-    (b"P\t8\ttest\tt\tnope\tz", "7"),
-    (b"P\t8\ttest\tt\tprimary\tid", "7"),
-    (b"P\t8\ttest\tt\t\x00\tid", "7"),
-    (b"P\t8\ttest\tt\tPRIMARY\tID", "8"),
-    (b"P\t8\ttest\tt\tPRIMARY\tid,", "8"),
-    (b"P\t8\ttest\tt\tPRIMARY\t,", "8"),
-    (b"P\t8\ttest\tt\tPRIMARY\tn,id,n", "8"),
-    (b"P\t8\ttest\tt\tPRIMARY\t\x00", "8"),
-    (b"P\t8\ttest\tt\tPRIMARY\tid\t\x00", "8"),
-    (b"P\t8\ttest\tt\tPRIMARY\tid\tid,id", "8"),
-    // A: the number of tokens and the type.
-    (b"A", "2"),
-    (b"A\t1", "2"),
-    (b"A\t1\tk\tk", "2"),
-    (b"A\t2\tk", "2"),
-    (b"A\t\x00\tk", "2"),
-    // The id, which is open, and the operator.
-    (b"1", "2"),
-    (b"9", "2"),
-    (b"9\t?", "5"),
-    (b"0\t+\t1\t1", "5"),
-    (b"1\t?\t1\t1", "10"),
-    (b"1\t!=\t1\t1", "10"),
-    (b"1\t\x00\t1\t1", "10"),
-    // An insert.
-    (b"1\t+", "2"),
-    (b"1\t+\tx", "2"),
-    (b"1\t+\t0", "11"),
-    (b"4\t+\t2\t1\t1", "11"),
-    (b"1\t+\t2\t1", "2"),
-    (b"1\t+\t1\t1\t1", "2"),
-    (b"1\t+\t1\tx", "15"),
-    (b"1\t+\t3\t1\ta\t9223372036854775808", "15"),
-    // The key of a find.
-    (b"1\t=", "2"),
-    (b"1\t=\t\x00", "2"),
-    (b"1\t=\t0", "11"),
-    (b"1\t=\t2\t1\t1", "11"),
-    (b"6\t>\t3\t1\ta\t1", "11"),
-    (b"1\t=\t1", "2"),
-    (b"1\t=\t1\tx", "15"),
-    (b"1\t=\t1\t", "15"),
-    // LIM.
-    (b"1\t=\t1\t1\t1", "2"),
-    (b"1\t=\t1\t1\t1\tx", "2"),
-    (b"1\t=\t1\t1\t1\t\x00", "2"),
-    // IN.
-    (b"1\t=\t1\t1\t@", "2"),
-    (b"1\t=\t1\t1\t@\tx\t0", "2"),
-    (b"1\t>\t1\t1\t@\t0\tx", "12"),
-    (b"1\t<=\t1\t1\t1\t0\t@\t0\t1\t1", "12"),
-    (b"1\t=\t1\t1\t1\t0\t@\t1\t1\t1", "12"),
-    (b"6\t=\t1\t1\t@\t1\t1\ta", "12"),
-    (b"1\t=\t1\t1\t@\t0", "2"),
-    (b"1\t=\t1\t1\t@\t0\t0", "12"),
-    (b"1\t=\t1\t1\t@\t0\t2\t1", "2"),
-    (b"1\t=\t1\t1\t@\t0\t2\t1\tx", "15"),
-    // Filters.
-    (b"3\t=\t1\t1\tF", "2"),
-    (b"3\t=\t1\t1\tF\t=\t0", "2"),
-    (b"3\t=\t1\t1\tF\t?\tx\t1", "13"),
-    (b"3\t=\t1\t1\tW\t=\tx\t1", "2"),
-    (b"3\t=\t1\t1\tW\t=\t2\tx", "13"),
-    (b"1\t=\t1\t1\tF\t=\t0\t1", "13"),
-    (b"3\t=\t1\t1\tF\t=\t0\t1\tW\t<\t1\tx", "15"),
-    // MOD.
-    (b"1\t=\t1\t1\tU\t1\ta\t2\t3", "14"),
-    (b"4\t=\t1\t1\tD\t1\t2", "14"),
-    (b"1\t=\t1\t1\tU\t1\ta\tx", "15"),
-    (b"5\t=\t1\t1\t+\tx", "14"),
-    (b"1\t=\t1\t1\t+?\t1\t1\tx", "14"),
-    (b"4\t=\t1\t1\t-\t\x00", "15"),
-    (b"1\t=\t1\t1\t-?\tx\t1", "15"),
-    // A token that begins none of the remaining parts.
-    (b"1\t=\t1\t1\tx", "2"),
-    (b"1\t=\t1\t1\t1\t0\t1\t0", "2"),
-    (b"1\t=\t1\t1\t@\t0\t1\t1\t1\t0", "2"),
-    (b"3\t=\t1\t1\tF\t=\t0\t1\t@\t0\t1\t1", "2"),
-    (b"1\t=\t1\t1\t\x00", "2"),
-];
-
-#[test]
-fn lines_are_refused_with_their_codes(rt: HostRuntime) -> Result<(), Fail> {
-    let alloc = rt.alloc();
-    let schema = schema(alloc)?;
-    let mut handles = connection(&rt, alloc, &schema)?;
-    for (line, code) in &REFUSED {
-        let told = told(alloc, &schema, Port::Writing, &mut handles, line)?;
-        assert_eq!(rt; told.as_str(), *code, "{line:?}");
-    }
-    Ok(())
-}
-
 #[test]
 fn lines_ask_for_what_they_say(rt: HostRuntime) -> Result<(), Fail> {
     let alloc = rt.alloc();
@@ -351,6 +238,36 @@ fn lines_ask_for_what_they_say(rt: HostRuntime) -> Result<(), Fail> {
     ] {
         let told = told(alloc, &schema, Port::Writing, &mut handles, line)?;
         assert_eq!(rt; told.as_str(), asked, "{line:?}");
+    }
+    Ok(())
+}
+
+#[test]
+fn a_copy_asks_for_the_same(rt: HostRuntime) -> Result<(), Fail> {
+    let alloc = rt.alloc();
+    let schema = schema(alloc)?;
+    let mut handles = connection(&rt, alloc, &schema)?;
+    for (line, asked) in [
+        (
+            b"3\t=\t1\t7\t2\t5\t@\t0\t2\t8\t9\tF\t!=\t1\t4\tW\t<\t0\t\x00".as_slice(),
+            "Equal 0.0 ( 7 ) 2 5 in 0 ( 8 9 ) NotEqual false 0 4 Less true 2 NULL < 0 >",
+        ),
+        (
+            b"1\t<\t1\t7\tU?\t8\tann",
+            "Less 0.0 ( 7 ) 1 0 < 0 1 2 > Update true ( 8 [97, 110, 110] )",
+        ),
+        (b"1\t+\t2\t3\tb", "insert 0 < 0 1 > ( 3 [98] )"),
+    ] {
+        let line = Bytes::from_vec(Vec::from_slice(alloc, line)?)?;
+        let mut auth = auth(alloc, None)?;
+        let port = Port::Writing;
+        let resolved = resolve(alloc, &schema, port, &mut handles, &mut auth, &line)?;
+        let copy = match &resolved {
+            Resolved::Ask(request) => Resolved::Ask(request.copy(alloc)?),
+            _ => Resolved::Opened,
+        };
+        drop(resolved);
+        assert_eq!(rt; spelled(alloc, &copy)?.as_str(), asked);
     }
     Ok(())
 }

@@ -1,6 +1,4 @@
-use Rattle.std.proofs.Common.{map}
 use Rattle.std.proofs.lemmas.Result.{err_from_is_err_and}
-use Rattle.open_index.specs.Open.{columns_onto}
 use Rattle.open_index.proofs.Names.{left, goes_on, ends, is_done}
 use Rattle.open_index.proofs.opening.columns_onto.Goals as goal
 
