@@ -120,7 +120,8 @@ impl MemDisk {
     fn try_write(&mut self, at: u64, saved: Saved) -> Result<(), AllocError>
         requires place { at ≤ length self.old.bytes }
         requires bound { at + length saved < 2 ^ 63 }
-        ensures ok { OnOk result (self.new ≡ carried_out self.old (Wrote at saved) (written at saved self.old.bytes)) }
+        ensures ok { OnOk result
+            (self.new ≡ carried_out self.old (Wrote at saved) (written at saved self.old.bytes)) }
         ensures err { OnErr result (self.new ≡ self.old) }
         ensures sound { IsSound self.new }
     {
@@ -133,7 +134,8 @@ impl MemDisk {
 
     // Cuts, or changes nothing.
     fn try_cut(&mut self, len: u64) -> Result<(), AllocError>
-        ensures ok { OnOk result (self.new ≡ carried_out self.old (CutTo len) (take len self.old.bytes)) }
+        ensures ok { OnOk result
+            (self.new ≡ carried_out self.old (CutTo len) (take len self.old.bytes)) }
         ensures err { OnErr result (self.new ≡ self.old) }
         ensures sound { IsSound self.new }
     {
@@ -156,10 +158,10 @@ impl MemDisk {
 }
 
 impl Disk for MemDisk {
-    ghost use Rattle.std.specs.Prelude.{◌≡◌, ◌↔◌, ◌≤◌, ◌++◌, ◌||◌, length, take, IsTrue, OnOk, OnErr};
+    ghost use Rattle.std.specs.Prelude.{◌≡◌, ◌↔◌, ◌≤◌, ◌++◌, ◌||◌, length, take, IsTrue, Ok, IsOkAnd, OnOk, OnErr};
     ghost use Rattle.std.specs.Result.{is_err};
     ghost use Rattle.hs_disk.specs.declared.change.Change.TheVariants.{CutTo, LostCut, Synced, Lost};
-    ghost use Rattle.hs_disk.specs.Disk.{Cut, Follows, AddsNone, Only};
+    ghost use Rattle.hs_disk.specs.Disk.{Cut, Fills, Follows, AddsNone, Only};
     ghost use Rattle.hs_disk.specs.Held.{carried_out, FailsWith, is_to_fail};
     ghost use Rattle.hs_disk.specs.Writes.{Writes};
     ghost use Rattle.hs_disk.specs.Sound.{IsSound, images, left_since};
@@ -185,11 +187,21 @@ impl Disk for MemDisk {
         self.faults
     }
 
-    fn len(&mut self) -> Result<u64, Failed> {
+    // It never fails.
+    fn len(&mut self) -> Result<u64, Failed>
+        ensures length { result ≡ Ok (length self.old.bytes) }
+        ensures stays { self.new ≡ self.old }
+        ensures sound { IsSound self.old }
+    {
         Ok(self.bytes.len() as u64)
     }
 
-    fn read(&mut self, at: u64, buf: &mut [u8]) -> Result<usize, Failed> {
+    // It never fails.
+    fn read(&mut self, at: u64, buf: &mut [u8]) -> Result<usize, Failed>
+        ensures bytes { IsOkAnd result (λ n. Fills self.old.bytes at n buf.old buf.new) }
+        ensures stays { self.new ≡ self.old }
+        ensures sound { IsSound self.old }
+    {
         let at = (at as usize).min(self.bytes.len());
         let count = buf.len().min(self.bytes.len() - at);
         buf[..count].copy_from_slice(&self.bytes[at..at + count]);
@@ -223,7 +235,8 @@ impl Disk for MemDisk {
     }
 
     fn cut(&mut self, len: u64) -> Result<(), Failed>
-        ensures ok { OnOk result (self.new ≡ carried_out self.old (CutTo len) (take len self.old.bytes)) }
+        ensures ok { OnOk result
+            (self.new ≡ carried_out self.old (CutTo len) (take len self.old.bytes)) }
         ensures err { OnErr result (FailsWith (LostCut len) self.old self.new) }
         ensures fails { IsTrue (is_err result) ↔ IsTrue (is_to_fail self.old || self.new.short) }
 

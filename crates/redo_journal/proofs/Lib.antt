@@ -1,3 +1,4 @@
+mod FreeLemmas
 mod GateLemmas
 mod HeaderLemmas
 mod ImageLemmas

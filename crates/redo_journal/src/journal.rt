@@ -69,17 +69,41 @@ impl Journal {
         requires stands { D.tells → IsJournalOn self.old (D.seen disk.old) (D.may_leave disk.old) }
 
         // Whatever text and payloads the journal stands for: a crash at any moment of the call shows them, with or without one more.
-        ensures any_moment { D.tells → (text : List ℕ) (payloads : List (List ℕ)) (doubtful : List ℕ) → StandsOn text payloads doubtful self.old (D.seen disk.old) (D.may_leave disk.old) → LeavesOnly D.moment D.left_since disk.old disk.new (ShowsOldOrNew text payloads doubtful self.old payload.now) }
-        ensures acknowledged { D.tells → (text : List ℕ) (payloads : List (List ℕ)) (doubtful : List ℕ) → StandsOn text payloads doubtful self.old (D.seen disk.old) (D.may_leave disk.old) → OnOk result (StandsOn text (payloads ++ payload.now ∷ []) payload.now self.new (D.seen disk.new) (D.may_leave disk.new)) }
-        ensures refused { D.tells → (text : List ℕ) (payloads : List (List ℕ)) (doubtful : List ℕ) → StandsOn text payloads doubtful self.old (D.seen disk.old) (D.may_leave disk.old) → OnErr result (StandsOn text payloads doubtful self.new (D.seen disk.new) (D.may_leave disk.new) ⊎ StandsOn text payloads payload.now self.new (D.seen disk.new) (D.may_leave disk.new)) }
+        ensures any_moment { D.tells
+            → (text : List ℕ) (payloads : List (List ℕ)) (doubtful : List ℕ)
+            → StandsOn text payloads doubtful self.old (D.seen disk.old) (D.may_leave disk.old)
+            → LeavesOnly D.moment D.left_since disk.old disk.new
+            (ShowsOldOrNew text payloads doubtful self.old payload.now) }
+        ensures acknowledged { D.tells
+            → (text : List ℕ) (payloads : List (List ℕ)) (doubtful : List ℕ)
+            → StandsOn text payloads doubtful self.old (D.seen disk.old) (D.may_leave disk.old)
+            → OnOk result (StandsOn text (payloads ++ payload.now ∷ []) payload.now self.new
+            (D.seen disk.new) (D.may_leave disk.new)) }
+        ensures refused { D.tells
+            → (text : List ℕ) (payloads : List (List ℕ)) (doubtful : List ℕ)
+            → StandsOn text payloads doubtful self.old (D.seen disk.old) (D.may_leave disk.old)
+            → OnErr result
+            (StandsOn text payloads doubtful self.new (D.seen disk.new) (D.may_leave disk.new)
+            ⊎ StandsOn text payloads payload.now self.new
+            (D.seen disk.new) (D.may_leave disk.new)) }
 
         ensures stands { D.tells → IsJournalOn self.new (D.seen disk.new) (D.may_leave disk.new) }
 
         // After Ok every image has the new payload. After a fault each has those from before, or, where a repair is due, the one behind the last gate too.
-        ensures shows_new { D.tells → (text : List ℕ) (payloads : List (List ℕ)) (doubtful : List ℕ) → StandsOn text payloads doubtful self.old (D.seen disk.old) (D.may_leave disk.old) → OnOk result ((image : List ℕ) → D.may_leave disk.new image → Journals text (payloads ++ payload.now ∷ []) image) }
-        ensures shows_old { D.tells → (text : List ℕ) (payloads : List (List ℕ)) (doubtful : List ℕ) → StandsOn text payloads doubtful self.old (D.seen disk.old) (D.may_leave disk.old) → OnErr result ((image : List ℕ) → D.may_leave disk.new image → ShowsOld text payloads doubtful self.new image ⊎ ShowsOld text payloads payload.now self.new image) }
+        ensures shows_new { D.tells
+            → (text : List ℕ) (payloads : List (List ℕ)) (doubtful : List ℕ)
+            → StandsOn text payloads doubtful self.old (D.seen disk.old) (D.may_leave disk.old)
+            → OnOk result ((image : List ℕ) → D.may_leave disk.new image
+            → Journals text (payloads ++ payload.now ∷ []) image) }
+        ensures shows_old { D.tells
+            → (text : List ℕ) (payloads : List (List ℕ)) (doubtful : List ℕ)
+            → StandsOn text payloads doubtful self.old (D.seen disk.old) (D.may_leave disk.old)
+            → OnErr result ((image : List ℕ) → D.may_leave disk.new image
+            → ShowsOld text payloads doubtful self.new image
+            ⊎ ShowsOld text payloads payload.now self.new image) }
 
-        ensures counted { OnOk result ((self.new.records ≡ self.old.records + 1) × (self.new.due ≡ false)) }
+        ensures counted { OnOk result
+            ((self.new.records ≡ self.old.records + 1) × (self.new.due ≡ false)) }
         ensures uncounted { OnErr result (self.new.records ≡ self.old.records) }
         ensures cause { HasCause (D.fault_count disk.old) (D.fault_count disk.new) result }
     {
@@ -90,8 +114,15 @@ impl Journal {
     // Closes the gate where it is in doubt.
     fn repair<D: Disk>(&mut self, disk: &mut D) -> Result<(), DiskFault>
         requires { D.tells → IsJournalOn self.old (D.seen disk.old) (D.may_leave disk.old) }
-        ensures any_moment { D.tells → (text : List ℕ) (payloads : List (List ℕ)) (doubtful : List ℕ) → StandsOn text payloads doubtful self.old (D.seen disk.old) (D.may_leave disk.old) → LeavesOnly D.moment D.left_since disk.old disk.new (ShowsOld text payloads doubtful self.old) }
-        ensures stands { D.tells → (text : List ℕ) (payloads : List (List ℕ)) (doubtful : List ℕ) → StandsOn text payloads doubtful self.old (D.seen disk.old) (D.may_leave disk.old) → StandsOn text payloads doubtful self.new (D.seen disk.new) (D.may_leave disk.new) }
+        ensures any_moment { D.tells
+            → (text : List ℕ) (payloads : List (List ℕ)) (doubtful : List ℕ)
+            → StandsOn text payloads doubtful self.old (D.seen disk.old) (D.may_leave disk.old)
+            → LeavesOnly D.moment D.left_since disk.old disk.new
+            (ShowsOld text payloads doubtful self.old) }
+        ensures stands { D.tells
+            → (text : List ℕ) (payloads : List (List ℕ)) (doubtful : List ℕ)
+            → StandsOn text payloads doubtful self.old (D.seen disk.old) (D.may_leave disk.old)
+            → StandsOn text payloads doubtful self.new (D.seen disk.new) (D.may_leave disk.new) }
         ensures ok { OnOk result (self.new ≡ record self.old { due = false }) }
         ensures err { OnErr result (self.new ≡ self.old) }
         ensures cause { HasCause (D.fault_count disk.old) (D.fault_count disk.new) result }
@@ -109,10 +140,23 @@ impl Journal {
         requires counts { self.old.records < 2 ^ 64 - 1 }
         requires quiet { self.old.due ≡ false }
         requires stands { D.tells → IsJournalOn self.old (D.seen disk.old) (D.may_leave disk.old) }
-        ensures any_moment { D.tells → (text : List ℕ) (payloads : List (List ℕ)) (doubtful : List ℕ) → StandsOn text payloads doubtful self.old (D.seen disk.old) (D.may_leave disk.old) → LeavesOnly D.moment D.left_since disk.old disk.new (ShowsOldOrNew text payloads doubtful self.old payload.now) }
-        ensures acknowledged { D.tells → (text : List ℕ) (payloads : List (List ℕ)) (doubtful : List ℕ) → StandsOn text payloads doubtful self.old (D.seen disk.old) (D.may_leave disk.old) → OnOk result (StandsOn text (payloads ++ payload.now ∷ []) payload.now self.new (D.seen disk.new) (D.may_leave disk.new)) }
-        ensures refused { D.tells → (text : List ℕ) (payloads : List (List ℕ)) (doubtful : List ℕ) → StandsOn text payloads doubtful self.old (D.seen disk.old) (D.may_leave disk.old) → OnErr result (StandsOn text payloads payload.now self.new (D.seen disk.new) (D.may_leave disk.new)) }
-        ensures counted { OnOk result ((self.new.records ≡ self.old.records + 1) × (self.new.due ≡ false)) }
+        ensures any_moment { D.tells
+            → (text : List ℕ) (payloads : List (List ℕ)) (doubtful : List ℕ)
+            → StandsOn text payloads doubtful self.old (D.seen disk.old) (D.may_leave disk.old)
+            → LeavesOnly D.moment D.left_since disk.old disk.new
+            (ShowsOldOrNew text payloads doubtful self.old payload.now) }
+        ensures acknowledged { D.tells
+            → (text : List ℕ) (payloads : List (List ℕ)) (doubtful : List ℕ)
+            → StandsOn text payloads doubtful self.old (D.seen disk.old) (D.may_leave disk.old)
+            → OnOk result (StandsOn text (payloads ++ payload.now ∷ []) payload.now self.new
+            (D.seen disk.new) (D.may_leave disk.new)) }
+        ensures refused { D.tells
+            → (text : List ℕ) (payloads : List (List ℕ)) (doubtful : List ℕ)
+            → StandsOn text payloads doubtful self.old (D.seen disk.old) (D.may_leave disk.old)
+            → OnErr result (StandsOn text payloads payload.now self.new
+            (D.seen disk.new) (D.may_leave disk.new)) }
+        ensures counted { OnOk result
+            ((self.new.records ≡ self.old.records + 1) × (self.new.due ≡ false)) }
         ensures uncounted { OnErr result (self.new.records ≡ self.old.records) }
         ensures cause { HasCause (D.fault_count disk.old) (D.fault_count disk.new) result }
     {
