@@ -1,6 +1,6 @@
 //! A disk as its users see it: bytes that are read, written and synced, and the images that a crash may leave.
 ghost use Rattle.std.specs.Prelude.{◌≡◌, ◌+◌, ◌^◌, ◌<◌, ◌≤◌, ◌++◌, List, ℕ, length, take, IfOk, OnOk, OnErr};
-ghost use Rattle.fault_count.specs.Cause.{HasCause};
+ghost use Rattle.fault_count.specs.Cause.{HasCause, next_count};
 ghost use Rattle.hs_disk.specs.Disk.{written, Torn, Cut, Fills, Follows, AddsNone, Only, Elapses};
 
 /// A call of the disk failed, and its count of faults rose.
@@ -26,6 +26,9 @@ pub trait Disk {
     /// How many calls have failed so far. The count stands still at its type's end.
     ghost fault_count: { Self → ℕ };
 
+    /// How many changing calls were asked for so far, in a count that stands still likewise.
+    ghost calls: { Self → ℕ };
+
     fn faults(&self) -> u64
         ensures { result ≡ fault_count self.now };
 
@@ -38,6 +41,7 @@ pub trait Disk {
         ensures reading { tells → may_leave self.new (seen self.new) }
         ensures time { tells → Elapses (moment self.old) (moment self.new)
             (left_since self.old) (left_since self.new) (may_leave self.new) }
+        ensures calls { tells → calls self.new ≡ calls self.old }
         ensures cause { HasCause (fault_count self.old) (fault_count self.new) result };
 
     /// Fills the buffer from this place on, except at the disk's end, and says how many bytes it read.
@@ -49,6 +53,7 @@ pub trait Disk {
         ensures reading { tells → may_leave self.new (seen self.new) }
         ensures time { tells → Elapses (moment self.old) (moment self.new)
             (left_since self.old) (left_since self.new) (may_leave self.new) }
+        ensures calls { tells → calls self.new ≡ calls self.old }
         ensures cause { HasCause (fault_count self.old) (fault_count self.new) result };
 
     /// Writes over what is there, and past the end. Until a sync, a crash may leave any bytes in the range.
@@ -64,6 +69,7 @@ pub trait Disk {
         ensures reading { tells → may_leave self.new (seen self.new) }
         ensures time { tells → Elapses (moment self.old) (moment self.new)
             (left_since self.old) (left_since self.new) (may_leave self.new) }
+        ensures calls { tells → calls self.new ≡ next_count (calls self.old) }
         ensures cause { HasCause (fault_count self.old) (fault_count self.new) result };
 
     /// Writes three pieces one after another, as `write_at` would write them joined.
@@ -79,6 +85,7 @@ pub trait Disk {
         ensures reading { tells → may_leave self.new (seen self.new) }
         ensures time { tells → Elapses (moment self.old) (moment self.new)
             (left_since self.old) (left_since self.new) (may_leave self.new) }
+        ensures calls { tells → calls self.new ≡ next_count (calls self.old) }
         ensures cause { HasCause (fault_count self.old) (fault_count self.new) result };
 
     /// Cuts the disk to a length, and leaves a shorter one. Until a sync, a crash may leave either length.
@@ -89,6 +96,7 @@ pub trait Disk {
         ensures reading { tells → may_leave self.new (seen self.new) }
         ensures time { tells → Elapses (moment self.old) (moment self.new)
             (left_since self.old) (left_since self.new) (may_leave self.new) }
+        ensures calls { tells → calls self.new ≡ next_count (calls self.old) }
         ensures cause { HasCause (fault_count self.old) (fault_count self.new) result };
 
     /// After it, a crash leaves what a read gives.
@@ -99,6 +107,7 @@ pub trait Disk {
         ensures reading { tells → may_leave self.new (seen self.new) }
         ensures time { tells → Elapses (moment self.old) (moment self.new)
             (left_since self.old) (left_since self.new) (may_leave self.new) }
+        ensures calls { tells → calls self.new ≡ next_count (calls self.old) }
         ensures cause { HasCause (fault_count self.old) (fault_count self.new) result };
 
     /// This moment is one of those since an earlier one.
@@ -122,6 +131,8 @@ impl<D: Disk> Disk for &mut D {
     ghost left_since = { λ d. D.left_since d.now };
 
     ghost fault_count = { λ d. D.fault_count d.now };
+
+    ghost calls = { λ d. D.calls d.now };
 
     ghost counts_now = { λ d. D.counts_now d.now };
 

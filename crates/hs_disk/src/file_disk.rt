@@ -148,6 +148,8 @@ impl Disk for FileDisk {
 
     ghost fault_count = { λ d. d.faults };
 
+    ghost calls = { λ d. 0 };
+
     ghost counts_now = { λ d t image told. absurd told };
 
     ghost only_now = { λ d image told. absurd told };

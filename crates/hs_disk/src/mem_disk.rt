@@ -37,7 +37,7 @@ impl Model for MemDisk {
 
 impl MemDisk {
     ghost use Rattle.hs_disk.specs.declared.change.Change.TheVariants.{Wrote, CutTo, Synced};
-    ghost use Rattle.hs_disk.specs.Held.{made, carried_out, out_of_memory, FailsWith, is_to_fail, IsFailed};
+    ghost use Rattle.hs_disk.specs.Held.{made, carried_out, out_of_memory, next_count, FailsWith, is_to_fail, IsFailed};
     ghost use Rattle.hs_disk.specs.Sound.{IsSound};
 
     /// A disk with these bytes, all of them synced, whose changing calls with these numbers fail.
@@ -93,6 +93,7 @@ impl MemDisk {
     fn fail(&mut self, change: Change) -> Failed
         requires { IsFailed change }
         ensures new { FailsWith change self.old self.new }
+        ensures calls { self.new.calls ≡ next_count self.old.calls }
         ensures was_sound { IsSound self.old }
         ensures sound { IsSound self.new }
     {
@@ -162,7 +163,7 @@ impl Disk for MemDisk {
     ghost use Rattle.std.specs.Result.{is_err};
     ghost use Rattle.hs_disk.specs.declared.change.Change.TheVariants.{CutTo, LostCut, Synced, Lost};
     ghost use Rattle.hs_disk.specs.Disk.{Cut, Fills, Follows, AddsNone, Only};
-    ghost use Rattle.hs_disk.specs.Held.{carried_out, FailsWith, is_to_fail};
+    ghost use Rattle.hs_disk.specs.Held.{carried_out, next_count, FailsWith, is_to_fail};
     ghost use Rattle.hs_disk.specs.Writes.{Writes};
     ghost use Rattle.hs_disk.specs.Sound.{IsSound, images, left_since};
     ghost use Rattle.hs_disk.specs.Sound as sound;
@@ -178,6 +179,8 @@ impl Disk for MemDisk {
     ghost left_since = { left_since };
 
     ghost fault_count = { λ d. d.faults };
+
+    ghost calls = { λ d. d.calls };
 
     ghost counts_now = { λ d t image told le now. sound.counts_now d.first d.changes t image le now };
 
@@ -210,14 +213,16 @@ impl Disk for MemDisk {
 
     fn write_at(&mut self, at: u64, bytes: &[u8]) -> Result<(), Failed>
         requires { at ≤ length self.old.bytes }
-        ensures { Writes at bytes.now self.old self.new result }
+        ensures writes { Writes at bytes.now self.old self.new result }
+        ensures calls { self.new.calls ≡ next_count self.old.calls }
     {
         self.write_pieces(at, &[], bytes, &[])
     }
 
     fn write_pieces(&mut self, at: u64, head: &[u8], body: &[u8], tail: &[u8]) -> Result<(), Failed>
         requires { at ≤ length self.old.bytes }
-        ensures { Writes at (head.now ++ body.now ++ tail.now) self.old self.new result }
+        ensures writes { Writes at (head.now ++ body.now ++ tail.now) self.old self.new result }
+        ensures calls { self.new.calls ≡ next_count self.old.calls }
     {
         let Some(len) = joined_len(at, head, body, tail) else {
             return Err(self.fail(Change::Lost));
@@ -239,6 +244,7 @@ impl Disk for MemDisk {
             (self.new ≡ carried_out self.old (CutTo len) (take len self.old.bytes)) }
         ensures err { OnErr result (FailsWith (LostCut len) self.old self.new) }
         ensures fails { IsTrue (is_err result) ↔ IsTrue (is_to_fail self.old || self.new.short) }
+        ensures calls { self.new.calls ≡ next_count self.old.calls }
 
         // What a crash may leave.
         ensures crash { Follows (Cut len) (images self.old) (images self.new) }
@@ -258,6 +264,7 @@ impl Disk for MemDisk {
         ensures ok { OnOk result (self.new ≡ carried_out self.old Synced self.old.bytes) }
         ensures err { OnErr result (FailsWith Lost self.old self.new) }
         ensures fails { IsTrue (is_err result) ↔ IsTrue (is_to_fail self.old || self.new.short) }
+        ensures calls { self.new.calls ≡ next_count self.old.calls }
 
         // What a crash may leave.
         ensures durable { OnOk result (Only self.old.bytes (images self.new)) }

@@ -1,3 +1,4 @@
+mod CallLemmas
 mod FreeLemmas
 mod GateLemmas
 mod HeaderLemmas

@@ -1,6 +1,7 @@
 //! The two steps of a record: to write it behind a closed gate, and to set that gate.
 ghost use Rattle.std.specs.Prelude.{◌≡◌, ◌+◌, ◌^◌, ◌<◌, ◌++◌, List, ℕ, length, OnOk};
 ghost use Rattle.hs_disk.specs.Cause.{HasCause};
+ghost use Rattle.hs_disk.specs.Disk.{calls_after};
 ghost use Rattle.redo_journal.specs.Image.{ClosedAfter};
 ghost use Rattle.redo_journal.specs.Gates.{InDoubtAfter, SetAfter, Throughout, Passes};
 
@@ -23,6 +24,7 @@ pub(crate) fn write_behind<D: Disk>(
         → Passes D.seen D.may_leave D.moment D.left_since disk.old disk.new (ClosedAfter front)
         (InDoubtAfter front (head.now ++ body.now)) (ClosedAfter front) result }
     ensures room { OnOk result (gate + length (head.now ++ body.now) + 2 < 2 ^ 63) }
+    ensures calls { D.tells → OnOk result (D.calls disk.new ≡ calls_after 2 (D.calls disk.old)) }
     ensures cause { HasCause (D.fault_count disk.old) (D.fault_count disk.new) result }
 {
     disk.write_pieces(gate + 1, head, body, &[0])?;
@@ -40,6 +42,7 @@ pub(crate) fn set_gate<D: Disk>(disk: &mut D, gate: u64, byte: u8) -> Result<(),
         → Passes D.seen D.may_leave D.moment D.left_since disk.old disk.new
         (InDoubtAfter front contents) (SetAfter front byte contents)
         (InDoubtAfter front contents) result }
+    ensures calls { D.tells → OnOk result (D.calls disk.new ≡ calls_after 2 (D.calls disk.old)) }
     ensures cause { HasCause (D.fault_count disk.old) (D.fault_count disk.new) result }
 {
     disk.write_at(gate, &[byte])?;

@@ -1,7 +1,7 @@
 //! A journal: where its last gate stands, and the appending of records.
 ghost use Rattle.std.specs.Prelude.{◌≡◌, ◌+◌, ◌-◌, ◌^◌, ◌<◌, ◌⊎◌, ◌++◌, ◌∷◌, [], List, ℕ, true, false, length, OnOk, OnErr};
 ghost use Rattle.hs_disk.specs.Cause.{HasCause};
-ghost use Rattle.hs_disk.specs.Disk.{LeavesOnly};
+ghost use Rattle.hs_disk.specs.Disk.{LeavesOnly, calls_after};
 
 use crate::gates::{set_gate, write_behind};
 use crate::refusal::DiskFault;
@@ -35,6 +35,7 @@ impl Model for Journal {
 impl Journal {
     ghost use Rattle.redo_journal.specs.Image.{Journals};
     ghost use Rattle.redo_journal.specs.Journal.{StandsOn, IsJournalOn, ShowsOld, ShowsOldOrNew};
+    ghost use Rattle.redo_journal.specs.Journal.{append_calls, repair_calls};
 
     // A journal whose last gate, at this place, is closed.
     pub(crate) fn at(gate: u64, records: u64) -> Journal
@@ -62,7 +63,7 @@ impl Journal {
         self.due
     }
 
-    /// Appends a record, in four changing calls of the disk, or six with a repair.
+    /// Appends a record.
     pub fn append<D: Disk>(&mut self, disk: &mut D, payload: &[u8]) -> Result<(), DiskFault>
         requires fits { length payload.now < 2 ^ 32 }
         requires counts { self.old.records < 2 ^ 64 - 1 }
@@ -105,6 +106,8 @@ impl Journal {
         ensures counted { OnOk result
             ((self.new.records ≡ self.old.records + 1) × (self.new.due ≡ false)) }
         ensures uncounted { OnErr result (self.new.records ≡ self.old.records) }
+        ensures calls { D.tells → OnOk result
+            (D.calls disk.new ≡ calls_after (append_calls self.old) (D.calls disk.old)) }
         ensures cause { HasCause (D.fault_count disk.old) (D.fault_count disk.new) result }
     {
         self.repair(disk)?;
@@ -125,6 +128,8 @@ impl Journal {
             → StandsOn text payloads doubtful self.new (D.seen disk.new) (D.may_leave disk.new) }
         ensures ok { OnOk result (self.new ≡ record self.old { due = false }) }
         ensures err { OnErr result (self.new ≡ self.old) }
+        ensures calls { D.tells → OnOk result
+            (D.calls disk.new ≡ calls_after (repair_calls self.old) (D.calls disk.old)) }
         ensures cause { HasCause (D.fault_count disk.old) (D.fault_count disk.new) result }
     {
         if self.due {
@@ -158,6 +163,8 @@ impl Journal {
         ensures counted { OnOk result
             ((self.new.records ≡ self.old.records + 1) × (self.new.due ≡ false)) }
         ensures uncounted { OnErr result (self.new.records ≡ self.old.records) }
+        ensures calls { D.tells → OnOk result
+            (D.calls disk.new ≡ calls_after 4 (D.calls disk.old)) }
         ensures cause { HasCause (D.fault_count disk.old) (D.fault_count disk.new) result }
     {
         let len = (payload.len() as u32).to_be_bytes();

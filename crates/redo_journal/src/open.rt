@@ -2,7 +2,7 @@
 ghost use Rattle.std.specs.Prelude.{◌≡◌, ◌≢◌, ◌^◌, ◌<◌, ◌≤◌, ℕ, List, [], false, length, slice_index, IfOk, IfErr, OnOk, IsErrOf};
 ghost use Rattle.hs_disk.specs.Cause.{Rose};
 ghost use Rattle.hs_disk.specs.Disk.{LeavesOnly};
-ghost use Rattle.redo_journal.specs.Image.{Journals, StandsFor, front};
+ghost use Rattle.redo_journal.specs.Image.{Journals, IsFresh, StandsFor, front};
 ghost use Rattle.redo_journal.specs.Gates.{Throughout};
 ghost use Rattle.redo_journal.specs.Journal.{StandsOn, IsJournalOn};
 ghost use Rattle.redo_journal.specs.Opening.{Opens, RefusesImage, RefusesLoad, RefusesReading};
@@ -43,6 +43,12 @@ pub fn open_on<D: Disk>(
         → LeavesOnly D.moment D.left_since disk.old disk.new
         (StandsFor schema_text.now payloads) }
 
+    // A disk that something was written to is not touched, whatever the answer.
+    ensures untouched { D.tells → (IsFresh (D.seen disk.old) → ⊥)
+        → D.seen disk.new ≡ D.seen disk.old }
+    ensures harmless { D.tells → (IsFresh (D.seen disk.old) → ⊥)
+        → LeavesOnly D.moment D.left_since disk.old disk.new (D.may_leave disk.old) }
+
     ensures later { D.fault_count disk.old ≤ D.fault_count disk.new }
     ensures fault { IsErrOf result Refusal.DiskFault
         → Rose (D.fault_count disk.old) (D.fault_count disk.new) }
@@ -59,6 +65,7 @@ pub fn open_on<D: Disk>(
 fn load<D: Disk>(alloc: Global, disk: &mut D) -> Result<Vec<u8>, Refusal>
     ensures bytes { D.tells → IfOk result (λ image. image.items ≡ D.seen disk.old) }
     ensures bound { IfOk result (λ image. length image.items < 2 ^ 63) }
+    ensures seen { D.tells → D.seen disk.new ≡ D.seen disk.old }
     ensures only { D.tells → OnOk result (Throughout (λ image. image ≡ D.seen disk.old)
         (D.seen disk.new) (D.may_leave disk.new)) }
     ensures moments { D.tells → LeavesOnly D.moment D.left_since disk.old disk.new
