@@ -1,5 +1,6 @@
 -- What the calls of a disk do to the bytes that it shows, and to the images that a crash may leave.
-use Rattle.std.specs.Prelude.{◌≡◌, ◌⊎◌, ℕ, ◌+◌, ◌-◌, ◌≤◌, min, max, List, ◌++◌, length, take, drop}
+use Rattle.std.specs.Prelude.{◌≡◌, ◌⊎◌, ℕ, zero, suc, ◌+◌, ◌-◌, ◌≤◌, min, max, List, ◌++◌, length, take, drop}
+use Rattle.fault_count.specs.Cause.{next_count}
 
 -- these bytes written over the old ones at this place, and past their end
 abbrev pub written : ℕ → List ℕ → List ℕ → List ℕ
@@ -33,6 +34,11 @@ AddsNone old new = (image : List ℕ) → new image → old image
 -- a crash leaves these bytes and nothing else
 abbrev pub Only : List ℕ → (List ℕ → Type 0) → Type 0
 Only bytes images = (image : List ℕ) → images image → image ≡ bytes
+
+-- a count of calls after n more of them
+abbrev pub calls_after : ℕ → ℕ → ℕ
+calls_after zero count = count
+calls_after (suc n) count = next_count (calls_after n count)
 
 -- Time goes on: a crash at some moment since t may have left what it may have left before, or what it may leave now.
 pub record Elapses (before now : ℕ) (past since : ℕ → List ℕ → Type 0) (may_leave : List ℕ → Type 0) : Type 0 where

@@ -4,5 +4,6 @@ pub mod Held
 pub mod Images
 pub mod Inside
 pub mod Length
+pub mod OpenFile
 pub mod Sound
 pub mod Writes

@@ -1,6 +1,6 @@
 //! A disk as its users see it: bytes that are read, written and synced, and the images that a crash may leave.
 ghost use Rattle.std.specs.Prelude.{◌≡◌, ◌+◌, ◌^◌, ◌<◌, ◌≤◌, ◌++◌, List, ℕ, length, take, IfOk, OnOk, OnErr};
-ghost use Rattle.fault_count.specs.Cause.{HasCause};
+ghost use Rattle.fault_count.specs.Cause.{HasCause, next_count};
 ghost use Rattle.hs_disk.specs.Disk.{written, Torn, Cut, Fills, Follows, AddsNone, Only, Elapses};
 
 /// A call of the disk failed, and its count of faults rose.
@@ -26,6 +26,9 @@ pub trait Disk {
     /// How many calls have failed so far. The count stands still at its type's end.
     ghost fault_count: { Self → ℕ };
 
+    /// How many changing calls were asked for so far, in a count that stands still likewise.
+    ghost calls: { Self → ℕ };
+
     fn faults(&self) -> u64
         ensures { result ≡ fault_count self.now };
 
@@ -36,7 +39,9 @@ pub trait Disk {
         ensures seen { tells → seen self.new ≡ seen self.old }
         ensures crash { tells → AddsNone (may_leave self.old) (may_leave self.new) }
         ensures reading { tells → may_leave self.new (seen self.new) }
-        ensures time { tells → Elapses (moment self.old) (moment self.new) (left_since self.old) (left_since self.new) (may_leave self.new) }
+        ensures time { tells → Elapses (moment self.old) (moment self.new)
+            (left_since self.old) (left_since self.new) (may_leave self.new) }
+        ensures calls { tells → calls self.new ≡ calls self.old }
         ensures cause { HasCause (fault_count self.old) (fault_count self.new) result };
 
     /// Fills the buffer from this place on, except at the disk's end, and says how many bytes it read.
@@ -46,29 +51,41 @@ pub trait Disk {
         ensures seen { tells → seen self.new ≡ seen self.old }
         ensures crash { tells → AddsNone (may_leave self.old) (may_leave self.new) }
         ensures reading { tells → may_leave self.new (seen self.new) }
-        ensures time { tells → Elapses (moment self.old) (moment self.new) (left_since self.old) (left_since self.new) (may_leave self.new) }
+        ensures time { tells → Elapses (moment self.old) (moment self.new)
+            (left_since self.old) (left_since self.new) (may_leave self.new) }
+        ensures calls { tells → calls self.new ≡ calls self.old }
         ensures cause { HasCause (fault_count self.old) (fault_count self.new) result };
 
     /// Writes over what is there, and past the end. Until a sync, a crash may leave any bytes in the range.
     fn write_at(&mut self, at: u64, bytes: &[u8]) -> Result<(), Failed>
         requires { tells → at ≤ length (seen self.old) }
-        ensures written { tells → OnOk result (seen self.new ≡ written at bytes.now (seen self.old)) }
-        ensures torn { tells → OnErr result (Torn at (length bytes.now) (seen self.old) (seen self.new)) }
+        ensures written { tells → OnOk result
+            (seen self.new ≡ written at bytes.now (seen self.old)) }
+        ensures torn { tells → OnErr result
+            (Torn at (length bytes.now) (seen self.old) (seen self.new)) }
         ensures room { OnOk result (at + length bytes.now < 2 ^ 63) }
-        ensures crash { tells → Follows (Torn at (length bytes.now)) (may_leave self.old) (may_leave self.new) }
+        ensures crash { tells → Follows (Torn at (length bytes.now))
+            (may_leave self.old) (may_leave self.new) }
         ensures reading { tells → may_leave self.new (seen self.new) }
-        ensures time { tells → Elapses (moment self.old) (moment self.new) (left_since self.old) (left_since self.new) (may_leave self.new) }
+        ensures time { tells → Elapses (moment self.old) (moment self.new)
+            (left_since self.old) (left_since self.new) (may_leave self.new) }
+        ensures calls { tells → calls self.new ≡ next_count (calls self.old) }
         ensures cause { HasCause (fault_count self.old) (fault_count self.new) result };
 
     /// Writes three pieces one after another, as `write_at` would write them joined.
     fn write_pieces(&mut self, at: u64, head: &[u8], body: &[u8], tail: &[u8]) -> Result<(), Failed>
         requires { tells → at ≤ length (seen self.old) }
-        ensures written { tells → OnOk result (seen self.new ≡ written at (head.now ++ body.now ++ tail.now) (seen self.old)) }
-        ensures torn { tells → OnErr result (Torn at (length (head.now ++ body.now ++ tail.now)) (seen self.old) (seen self.new)) }
+        ensures written { tells → OnOk result
+            (seen self.new ≡ written at (head.now ++ body.now ++ tail.now) (seen self.old)) }
+        ensures torn { tells → OnErr result
+            (Torn at (length (head.now ++ body.now ++ tail.now)) (seen self.old) (seen self.new)) }
         ensures room { OnOk result (at + length (head.now ++ body.now ++ tail.now) < 2 ^ 63) }
-        ensures crash { tells → Follows (Torn at (length (head.now ++ body.now ++ tail.now))) (may_leave self.old) (may_leave self.new) }
+        ensures crash { tells → Follows (Torn at (length (head.now ++ body.now ++ tail.now)))
+            (may_leave self.old) (may_leave self.new) }
         ensures reading { tells → may_leave self.new (seen self.new) }
-        ensures time { tells → Elapses (moment self.old) (moment self.new) (left_since self.old) (left_since self.new) (may_leave self.new) }
+        ensures time { tells → Elapses (moment self.old) (moment self.new)
+            (left_since self.old) (left_since self.new) (may_leave self.new) }
+        ensures calls { tells → calls self.new ≡ next_count (calls self.old) }
         ensures cause { HasCause (fault_count self.old) (fault_count self.new) result };
 
     /// Cuts the disk to a length, and leaves a shorter one. Until a sync, a crash may leave either length.
@@ -77,7 +94,9 @@ pub trait Disk {
         ensures torn { tells → OnErr result (Cut len (seen self.old) (seen self.new)) }
         ensures crash { tells → Follows (Cut len) (may_leave self.old) (may_leave self.new) }
         ensures reading { tells → may_leave self.new (seen self.new) }
-        ensures time { tells → Elapses (moment self.old) (moment self.new) (left_since self.old) (left_since self.new) (may_leave self.new) }
+        ensures time { tells → Elapses (moment self.old) (moment self.new)
+            (left_since self.old) (left_since self.new) (may_leave self.new) }
+        ensures calls { tells → calls self.new ≡ next_count (calls self.old) }
         ensures cause { HasCause (fault_count self.old) (fault_count self.new) result };
 
     /// After it, a crash leaves what a read gives.
@@ -86,14 +105,18 @@ pub trait Disk {
         ensures seen { tells → seen self.new ≡ seen self.old }
         ensures crash { tells → AddsNone (may_leave self.old) (may_leave self.new) }
         ensures reading { tells → may_leave self.new (seen self.new) }
-        ensures time { tells → Elapses (moment self.old) (moment self.new) (left_since self.old) (left_since self.new) (may_leave self.new) }
+        ensures time { tells → Elapses (moment self.old) (moment self.new)
+            (left_since self.old) (left_since self.new) (may_leave self.new) }
+        ensures calls { tells → calls self.new ≡ next_count (calls self.old) }
         ensures cause { HasCause (fault_count self.old) (fault_count self.new) result };
 
     /// This moment is one of those since an earlier one.
-    ghost counts_now: { (disk : Self) (t : ℕ) (image : List ℕ) → tells → t ≤ moment disk → may_leave disk image → left_since disk t image };
+    ghost counts_now: { (disk : Self) (t : ℕ) (image : List ℕ) → tells → t ≤ moment disk
+        → may_leave disk image → left_since disk t image };
 
     /// Since this moment there is no other.
-    ghost only_now: { (disk : Self) (image : List ℕ) → tells → left_since disk (moment disk) image → may_leave disk image };
+    ghost only_now: { (disk : Self) (image : List ℕ) → tells
+        → left_since disk (moment disk) image → may_leave disk image };
 }
 
 impl<D: Disk> Disk for &mut D {
@@ -108,6 +131,8 @@ impl<D: Disk> Disk for &mut D {
     ghost left_since = { λ d. D.left_since d.now };
 
     ghost fault_count = { λ d. D.fault_count d.now };
+
+    ghost calls = { λ d. D.calls d.now };
 
     ghost counts_now = { λ d. D.counts_now d.now };
 

@@ -14,6 +14,8 @@ pub fn worked_examples()
 
     // A cut that is not synced may be undone, and one that is synced may not.
     ensures cut_undone { IsImage (1 ∷ 2 ∷ []) (CutTo 1 ∷ []) (1 ∷ 2 ∷ []) }
-    ensures cut_synced { (image : List ℕ) → IsImage (1 ∷ 2 ∷ []) (CutTo 1 ∷ Synced ∷ []) image → image ≡ 1 ∷ [] }
-    ensures write_synced { (image : List ℕ) → IsImage [] (Wrote 0 (5 ∷ []) ∷ Synced ∷ []) image → image ≡ 5 ∷ [] }
+    ensures cut_synced { (image : List ℕ)
+        → IsImage (1 ∷ 2 ∷ []) (CutTo 1 ∷ Synced ∷ []) image → image ≡ 1 ∷ [] }
+    ensures write_synced { (image : List ℕ)
+        → IsImage [] (Wrote 0 (5 ∷ []) ∷ Synced ∷ []) image → image ≡ 5 ∷ [] }
 {}

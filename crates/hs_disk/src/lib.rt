@@ -10,6 +10,7 @@
 
 mod change;
 mod disk;
+mod file_calls;
 mod file_disk;
 mod laws;
 mod length;

@@ -37,7 +37,7 @@ impl Model for MemDisk {
 
 impl MemDisk {
     ghost use Rattle.hs_disk.specs.declared.change.Change.TheVariants.{Wrote, CutTo, Synced};
-    ghost use Rattle.hs_disk.specs.Held.{made, carried_out, out_of_memory, FailsWith, is_to_fail, IsFailed};
+    ghost use Rattle.hs_disk.specs.Held.{made, carried_out, out_of_memory, next_count, FailsWith, is_to_fail, IsFailed};
     ghost use Rattle.hs_disk.specs.Sound.{IsSound};
 
     /// A disk with these bytes, all of them synced, whose changing calls with these numbers fail.
@@ -93,6 +93,7 @@ impl MemDisk {
     fn fail(&mut self, change: Change) -> Failed
         requires { IsFailed change }
         ensures new { FailsWith change self.old self.new }
+        ensures calls { self.new.calls ≡ next_count self.old.calls }
         ensures was_sound { IsSound self.old }
         ensures sound { IsSound self.new }
     {
@@ -120,7 +121,8 @@ impl MemDisk {
     fn try_write(&mut self, at: u64, saved: Saved) -> Result<(), AllocError>
         requires place { at ≤ length self.old.bytes }
         requires bound { at + length saved < 2 ^ 63 }
-        ensures ok { OnOk result (self.new ≡ carried_out self.old (Wrote at saved) (written at saved self.old.bytes)) }
+        ensures ok { OnOk result
+            (self.new ≡ carried_out self.old (Wrote at saved) (written at saved self.old.bytes)) }
         ensures err { OnErr result (self.new ≡ self.old) }
         ensures sound { IsSound self.new }
     {
@@ -133,7 +135,8 @@ impl MemDisk {
 
     // Cuts, or changes nothing.
     fn try_cut(&mut self, len: u64) -> Result<(), AllocError>
-        ensures ok { OnOk result (self.new ≡ carried_out self.old (CutTo len) (take len self.old.bytes)) }
+        ensures ok { OnOk result
+            (self.new ≡ carried_out self.old (CutTo len) (take len self.old.bytes)) }
         ensures err { OnErr result (self.new ≡ self.old) }
         ensures sound { IsSound self.new }
     {
@@ -156,11 +159,11 @@ impl MemDisk {
 }
 
 impl Disk for MemDisk {
-    ghost use Rattle.std.specs.Prelude.{◌≡◌, ◌↔◌, ◌≤◌, ◌++◌, ◌||◌, length, take, IsTrue, OnOk, OnErr};
+    ghost use Rattle.std.specs.Prelude.{◌≡◌, ◌↔◌, ◌≤◌, ◌++◌, ◌||◌, length, take, IsTrue, Ok, IsOkAnd, OnOk, OnErr};
     ghost use Rattle.std.specs.Result.{is_err};
     ghost use Rattle.hs_disk.specs.declared.change.Change.TheVariants.{CutTo, LostCut, Synced, Lost};
-    ghost use Rattle.hs_disk.specs.Disk.{Cut, Follows, AddsNone, Only};
-    ghost use Rattle.hs_disk.specs.Held.{carried_out, FailsWith, is_to_fail};
+    ghost use Rattle.hs_disk.specs.Disk.{Cut, Fills, Follows, AddsNone, Only};
+    ghost use Rattle.hs_disk.specs.Held.{carried_out, next_count, FailsWith, is_to_fail};
     ghost use Rattle.hs_disk.specs.Writes.{Writes};
     ghost use Rattle.hs_disk.specs.Sound.{IsSound, images, left_since};
     ghost use Rattle.hs_disk.specs.Sound as sound;
@@ -177,6 +180,8 @@ impl Disk for MemDisk {
 
     ghost fault_count = { λ d. d.faults };
 
+    ghost calls = { λ d. d.calls };
+
     ghost counts_now = { λ d t image told le now. sound.counts_now d.first d.changes t image le now };
 
     ghost only_now = { λ d image told left. sound.only_now d.first d.changes image left };
@@ -185,11 +190,21 @@ impl Disk for MemDisk {
         self.faults
     }
 
-    fn len(&mut self) -> Result<u64, Failed> {
+    // It never fails.
+    fn len(&mut self) -> Result<u64, Failed>
+        ensures length { result ≡ Ok (length self.old.bytes) }
+        ensures stays { self.new ≡ self.old }
+        ensures sound { IsSound self.old }
+    {
         Ok(self.bytes.len() as u64)
     }
 
-    fn read(&mut self, at: u64, buf: &mut [u8]) -> Result<usize, Failed> {
+    // It never fails.
+    fn read(&mut self, at: u64, buf: &mut [u8]) -> Result<usize, Failed>
+        ensures bytes { IsOkAnd result (λ n. Fills self.old.bytes at n buf.old buf.new) }
+        ensures stays { self.new ≡ self.old }
+        ensures sound { IsSound self.old }
+    {
         let at = (at as usize).min(self.bytes.len());
         let count = buf.len().min(self.bytes.len() - at);
         buf[..count].copy_from_slice(&self.bytes[at..at + count]);
@@ -198,14 +213,16 @@ impl Disk for MemDisk {
 
     fn write_at(&mut self, at: u64, bytes: &[u8]) -> Result<(), Failed>
         requires { at ≤ length self.old.bytes }
-        ensures { Writes at bytes.now self.old self.new result }
+        ensures writes { Writes at bytes.now self.old self.new result }
+        ensures calls { self.new.calls ≡ next_count self.old.calls }
     {
         self.write_pieces(at, &[], bytes, &[])
     }
 
     fn write_pieces(&mut self, at: u64, head: &[u8], body: &[u8], tail: &[u8]) -> Result<(), Failed>
         requires { at ≤ length self.old.bytes }
-        ensures { Writes at (head.now ++ body.now ++ tail.now) self.old self.new result }
+        ensures writes { Writes at (head.now ++ body.now ++ tail.now) self.old self.new result }
+        ensures calls { self.new.calls ≡ next_count self.old.calls }
     {
         let Some(len) = joined_len(at, head, body, tail) else {
             return Err(self.fail(Change::Lost));
@@ -223,9 +240,11 @@ impl Disk for MemDisk {
     }
 
     fn cut(&mut self, len: u64) -> Result<(), Failed>
-        ensures ok { OnOk result (self.new ≡ carried_out self.old (CutTo len) (take len self.old.bytes)) }
+        ensures ok { OnOk result
+            (self.new ≡ carried_out self.old (CutTo len) (take len self.old.bytes)) }
         ensures err { OnErr result (FailsWith (LostCut len) self.old self.new) }
         ensures fails { IsTrue (is_err result) ↔ IsTrue (is_to_fail self.old || self.new.short) }
+        ensures calls { self.new.calls ≡ next_count self.old.calls }
 
         // What a crash may leave.
         ensures crash { Follows (Cut len) (images self.old) (images self.new) }
@@ -245,6 +264,7 @@ impl Disk for MemDisk {
         ensures ok { OnOk result (self.new ≡ carried_out self.old Synced self.old.bytes) }
         ensures err { OnErr result (FailsWith Lost self.old self.new) }
         ensures fails { IsTrue (is_err result) ↔ IsTrue (is_to_fail self.old || self.new.short) }
+        ensures calls { self.new.calls ≡ next_count self.old.calls }
 
         // What a crash may leave.
         ensures durable { OnOk result (Only self.old.bytes (images self.new)) }

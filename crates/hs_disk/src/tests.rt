@@ -1,7 +1,10 @@
 //! What a disk answers, through the trait, in memory and over a file.
 use crate::{Disk, Failed, FileDisk, MemDisk};
-use std::fs;
+use std::fs::File;
+use std::io::ErrorKind;
+use std::rt::Files;
 use std::test::Fail;
+use std::{fs, io};
 
 // Reads all of a disk through its bound, and says how many of its calls have failed.
 fn front<D: Disk + Drop>(mut disk: D, buf: &mut [u8]) -> (Result<usize, Failed>, u64) {
@@ -72,6 +75,61 @@ fn a_file_holds_what_was_written(rt: HostRuntime) -> Result<(), Fail> {
     assert_eq!(rt; again.read(0, &mut buf).ok(), Some(6));
     assert_eq!(rt; buf, [b'j', b'o', b'u', b'r', b'n', b'a', 0, 0]);
     assert_eq!(rt; front(again, &mut buf).1, 0);
+    fs::remove_file(&rt, path)?;
+    Ok(())
+}
+
+// How many bytes a file holds to one who opens it, and how many of them a read puts into the buffer.
+fn opened<R: Files<File = File>>(rt: &R, path: &str, buf: &mut [u8]) -> io::Result<(u64, usize)> {
+    let mut disk = FileDisk::open(rt, path)?;
+    let (Ok(len), Ok(count)) = (disk.len(), disk.read(0, buf)) else {
+        return Err(ErrorKind::Other.into());
+    };
+    Ok((len, count))
+}
+
+#[test]
+fn a_file_grows_ahead_by_zeros_that_its_disk_does_not_show(rt: HostRuntime) -> Result<(), Fail> {
+    let path = "hs_disk_grows.tmp";
+    let mut buf = [1; 5];
+    let mut disk = FileDisk::open(&rt, path)?;
+    disk.cut(0).ok().ok_or("cut")?;
+    disk.write_at(0, b"j").ok().ok_or("write")?;
+    assert_eq!(rt; opened(&rt, path, &mut buf)?, (1, 1));
+    disk.write_pieces(1, b"o", b"", b"u").ok().ok_or("write")?;
+    assert_eq!(rt; opened(&rt, path, &mut buf)?, (3 + (1 << 20), 5));
+    assert_eq!(rt; buf, [b'j', b'o', b'u', 0, 0]);
+    assert_eq!(rt; disk.len().ok(), Some(3));
+    assert_eq!(rt; disk.read(1, &mut buf).ok(), Some(2));
+    assert_eq!(rt; disk.read(4, &mut buf).ok(), Some(0));
+    disk.write_at(3, b"rnal").ok().ok_or("write")?;
+    assert_eq!(rt; disk.len().ok(), Some(7));
+    assert_eq!(rt; opened(&rt, path, &mut buf)?, (3 + (1 << 20), 5));
+    disk.cut(9).ok().ok_or("cut")?;
+    assert_eq!(rt; disk.len().ok(), Some(7));
+    disk.cut(4).ok().ok_or("cut")?;
+    assert_eq!(rt; disk.len().ok(), Some(4));
+    assert_eq!(rt; opened(&rt, path, &mut buf)?, (4, 4));
+    fs::remove_file(&rt, path)?;
+    Ok(())
+}
+
+#[test]
+fn pieces_of_every_length_are_written_whole(rt: HostRuntime) -> Result<(), Fail> {
+    let path = "hs_disk_pieces.tmp";
+    let body = [7; 9000];
+    for len in [0, 1, 8189, 8190, 8191, 9000] {
+        let mut disk = FileDisk::open(&rt, path)?;
+        disk.cut(0).ok().ok_or("cut")?;
+        disk.write_pieces(0, b"a", &body[..len], b"z")
+            .ok()
+            .ok_or("write")?;
+        let mut buf = [0; 9003];
+        assert_eq!(rt; disk.read(0, &mut buf).ok(), Some(len + 2), "{len}");
+        assert_eq!(rt; buf[0], b'a', "{len}");
+        assert_eq!(rt; &buf[1..=len], &body[..len], "{len}");
+        assert_eq!(rt; &buf[len + 1..len + 3], b"z\0".as_slice(), "{len}");
+    }
     fs::remove_file(&rt, path)?;
     Ok(())
 }

@@ -8,3 +8,5 @@ pub mod Joined
 pub mod ColumnAgain
 pub mod IndexAgain
 pub mod SchemaAgain
+pub mod FromLeft
+pub mod LeftToRight

@@ -1,10 +1,11 @@
 //! A schema's text is read again; and table lines written out, with what they say.
-ghost use Rattle.std.specs.Prelude.{◌≡◌, ◌<◌, false, length, List, [], ◌∷◌, ◌++◌, Some, Ok, codes};
+ghost use Rattle.std.specs.Prelude.{◌≡◌, ◌+◌, ◌<◌, ℕ, take, false, length, List, [], ◌∷◌, ◌++◌, Some, Ok, codes};
 ghost use Rattle.hs_token.specs.declared.tokens.Token.{Token};
 ghost use Rattle.hs_line.specs.Lines.{lines_of};
 ghost use Rattle.row_types.specs.declared.tables.Schema.{Schema};
 ghost use Rattle.row_types.specs.declared.tables.TableDef.{TableDef};
 ghost use Rattle.row_types.specs.Valid.{IsTable, IsValid};
+ghost use Rattle.hs_schema.specs.declared.faults.SchemaRule.{SchemaRule};
 ghost use Rattle.hs_schema.specs.declared.faults.SchemaRule.TheVariants.{BadKind, DuplicateName, NoPrimary};
 ghost use Rattle.hs_schema.specs.Reading.{broken, has_table, table_at};
 ghost use Rattle.hs_schema.specs.Adding.{with_lines};
@@ -23,6 +24,13 @@ pub fn lines_say_the_valid_tables()
         → table_at tables line ≡ Ok t → IsTable t × (has_table tables t.db t.name ≡ false) × (length tables < 64) }
     ensures again { (tables : List TableDef) (t : TableDef) → IsTable t
         → has_table tables t.db t.name ≡ false → length tables < 64 → table_at tables (table_tokens t) ≡ Ok t }
+{}
+
+/// Lines with the same tokens up to that of the first broken rule break the same rule first.
+pub fn lines_are_read_from_the_left()
+    ensures { (tables : List TableDef) (line other : List Token) (rule : SchemaRule) (token : ℕ)
+        → table_at tables line ≡ broken rule token → token < length line
+        → take (token + 1) line ≡ take (token + 1) other → table_at tables other ≡ broken rule token }
 {}
 
 /// A line, the table that it says, and the line of that table.

@@ -22,5 +22,8 @@ mod tests;
 mod tokens;
 
 pub use faults::{SchemaFault, SchemaRule};
-pub use laws::{example_breaches, example_table, lines_say_the_valid_tables, texts_are_read_again};
+pub use laws::{
+    example_breaches, example_table, lines_are_read_from_the_left, lines_say_the_valid_tables,
+    texts_are_read_again,
+};
 pub use schemas::{SchemaLines, empty};

@@ -1,3 +1,5 @@
+mod CallLemmas
+mod FreeLemmas
 mod GateLemmas
 mod HeaderLemmas
 mod ImageLemmas

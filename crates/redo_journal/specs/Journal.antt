@@ -1,5 +1,5 @@
 -- What a journal stands for on its disk.
-use Rattle.std.specs.Prelude.{◌≡◌, ◌⊎◌, ℕ, Bool, true, false, List, [], ◌∷◌, ◌++◌, length}
+use Rattle.std.specs.Prelude.{◌≡◌, ◌⊎◌, ℕ, Bool, true, false, if◌then◌else◌, List, [], ◌∷◌, ◌++◌, length}
 use Rattle.std.specs.List.{AllByRecursion}
 use Rattle.redo_journal.specs.Image.{FitsLength, Journals, ClosedAfter, front, counted}
 use Rattle.redo_journal.specs.Gates.{InDoubtAfter, Throughout}
@@ -38,3 +38,11 @@ ShowsOld text payloads doubtful journal image =
 abbrev pub ShowsOldOrNew : List ℕ → List (List ℕ) → List ℕ → Standing → List ℕ → List ℕ → Type 0
 ShowsOldOrNew text payloads doubtful journal payload image =
     ShowsOld text payloads doubtful journal image ⊎ Journals text (payloads ++ payload ∷ []) image
+
+-- how many changing calls a repair makes, where one is due
+abbrev pub repair_calls : Standing → ℕ
+repair_calls journal = if journal.due then 2 else 0
+
+-- and an append, which writes the record and then its gate, each with a sync
+abbrev pub append_calls : Standing → ℕ
+append_calls journal = if journal.due then 6 else 4

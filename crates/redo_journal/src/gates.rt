@@ -1,6 +1,7 @@
 //! The two steps of a record: to write it behind a closed gate, and to set that gate.
 ghost use Rattle.std.specs.Prelude.{◌≡◌, ◌+◌, ◌^◌, ◌<◌, ◌++◌, List, ℕ, length, OnOk};
 ghost use Rattle.hs_disk.specs.Cause.{HasCause};
+ghost use Rattle.hs_disk.specs.Disk.{calls_after};
 ghost use Rattle.redo_journal.specs.Image.{ClosedAfter};
 ghost use Rattle.redo_journal.specs.Gates.{InDoubtAfter, SetAfter, Throughout, Passes};
 
@@ -18,8 +19,12 @@ pub(crate) fn write_behind<D: Disk>(
     requires within { D.tells → gate < length (D.seen disk.old) }
 
     // Before, the gate is closed. So it stays, and what is behind it is free.
-    ensures passes { D.tells → (front : List ℕ) → gate ≡ length front → Throughout (ClosedAfter front) (D.seen disk.old) (D.may_leave disk.old) → Passes D.seen D.may_leave D.moment D.left_since disk.old disk.new (ClosedAfter front) (InDoubtAfter front (head.now ++ body.now)) (ClosedAfter front) result }
+    ensures passes { D.tells → (front : List ℕ) → gate ≡ length front
+        → Throughout (ClosedAfter front) (D.seen disk.old) (D.may_leave disk.old)
+        → Passes D.seen D.may_leave D.moment D.left_since disk.old disk.new (ClosedAfter front)
+        (InDoubtAfter front (head.now ++ body.now)) (ClosedAfter front) result }
     ensures room { OnOk result (gate + length (head.now ++ body.now) + 2 < 2 ^ 63) }
+    ensures calls { D.tells → OnOk result (D.calls disk.new ≡ calls_after 2 (D.calls disk.old)) }
     ensures cause { HasCause (D.fault_count disk.old) (D.fault_count disk.new) result }
 {
     disk.write_pieces(gate + 1, head, body, &[0])?;
@@ -32,7 +37,12 @@ pub(crate) fn set_gate<D: Disk>(disk: &mut D, gate: u64, byte: u8) -> Result<(),
     requires within { D.tells → gate < length (D.seen disk.old) }
 
     // What stands behind the gate is whole, and stays.
-    ensures passes { D.tells → (front contents : List ℕ) → gate ≡ length front → Throughout (InDoubtAfter front contents) (D.seen disk.old) (D.may_leave disk.old) → Passes D.seen D.may_leave D.moment D.left_since disk.old disk.new (InDoubtAfter front contents) (SetAfter front byte contents) (InDoubtAfter front contents) result }
+    ensures passes { D.tells → (front contents : List ℕ) → gate ≡ length front
+        → Throughout (InDoubtAfter front contents) (D.seen disk.old) (D.may_leave disk.old)
+        → Passes D.seen D.may_leave D.moment D.left_since disk.old disk.new
+        (InDoubtAfter front contents) (SetAfter front byte contents)
+        (InDoubtAfter front contents) result }
+    ensures calls { D.tells → OnOk result (D.calls disk.new ≡ calls_after 2 (D.calls disk.old)) }
     ensures cause { HasCause (D.fault_count disk.old) (D.fault_count disk.new) result }
 {
     disk.write_at(gate, &[byte])?;

@@ -14,7 +14,9 @@ const MARK: [u8; 8] = *b"HSJRNL01";
 // The place behind a text whose length stands at this one, or None where it, or the gate behind it, lies past the end.
 fn end_of(image: &[u8], at: usize) -> Option<usize>
     requires { at ≤ length image.now }
-    ensures { MatchOption result (IsCutShort (drop at image.now)) (λ end. (end ≡ at + 4 + length_of (drop at image.now)) × (end < length image.now) × (length_of (drop at image.now) < 2 ^ 32)) }
+    ensures { MatchOption result (IsCutShort (drop at image.now))
+        (λ end. (end ≡ at + 4 + length_of (drop at image.now)) × (end < length image.now)
+        × (length_of (drop at image.now) < 2 ^ 32)) }
 {
     let rest = &image[at..];
     let [a, b, c, d, ..] = rest else {
@@ -42,7 +44,8 @@ pub(crate) fn is_fresh(image: &[u8]) -> bool
 // The place of the first record's gate, behind a header with this schema text.
 pub(crate) fn read_header(image: &[u8], text: &[u8]) -> Result<usize, Refusal>
     requires begun { (slice_index image.now 0 ≡ 1) × (2 ≤ length image.now) }
-    ensures ok { IfOk result (λ first. (take first image.now ≡ 1 ∷ heading text.now) × (first < length image.now) × FitsLength text.now) }
+    ensures ok { IfOk result (λ first. (take first image.now ≡ 1 ∷ heading text.now)
+        × (first < length image.now) × FitsLength text.now) }
     ensures err { IfErr result (RefusesHeader text.now image.now) }
 {
     if image.len() < 9 || &image[1..9] != MARK.as_slice() {

@@ -21,7 +21,7 @@ mod refusal;
 mod tests;
 
 pub use journal::Journal;
-pub use laws::{an_image_reads_one_way, worked_examples};
+pub use laws::{an_image_reads_one_way, what_follows_is_free, worked_examples};
 pub use open::open_on;
 pub use record::Record;
 pub use refusal::{DiskFault, Refusal};

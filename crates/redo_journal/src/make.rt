@@ -12,7 +12,9 @@ use hs_disk::Disk;
 
 // Leaves one closed gate, and nothing else, on a disk that nothing was written to.
 fn blank<D: Disk>(disk: &mut D) -> Result<(), DiskFault>
-    ensures passes { D.tells → Throughout IsFresh (D.seen disk.old) (D.may_leave disk.old) → Passes D.seen D.may_leave D.moment D.left_since disk.old disk.new IsFresh (ClosedAfter []) IsFresh result }
+    ensures passes { D.tells → Throughout IsFresh (D.seen disk.old) (D.may_leave disk.old)
+        → Passes D.seen D.may_leave D.moment D.left_since disk.old disk.new
+        IsFresh (ClosedAfter []) IsFresh result }
     ensures cause { HasCause (D.fault_count disk.old) (D.fault_count disk.new) result }
 {
     disk.cut(0)?;
@@ -34,8 +36,10 @@ fn marked(len: u32) -> [u8; 12]
 pub(crate) fn make<D: Disk>(disk: &mut D, text: &[u8]) -> Result<u64, DiskFault>
     requires fits { length text.now < 2 ^ 32 }
     requires fresh { D.tells → Throughout IsFresh (D.seen disk.old) (D.may_leave disk.old) }
-    ensures moments { D.tells → LeavesOnly D.moment D.left_since disk.old disk.new (StandsFor text.now []) }
-    ensures ok { D.tells → IfOk result (λ gate. Throughout (ClosedAfter (front text.now [])) (D.seen disk.new) (D.may_leave disk.new)) }
+    ensures moments { D.tells → LeavesOnly D.moment D.left_since disk.old disk.new
+        (StandsFor text.now []) }
+    ensures ok { D.tells → IfOk result (λ gate. Throughout (ClosedAfter (front text.now []))
+        (D.seen disk.new) (D.may_leave disk.new)) }
     ensures place { IfOk result (λ gate. (gate ≡ length (front text.now [])) × (gate < 2 ^ 63)) }
     ensures cause { HasCause (D.fault_count disk.old) (D.fault_count disk.new) result }
 {

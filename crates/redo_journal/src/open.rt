@@ -2,7 +2,7 @@
 ghost use Rattle.std.specs.Prelude.{◌≡◌, ◌≢◌, ◌^◌, ◌<◌, ◌≤◌, ℕ, List, [], false, length, slice_index, IfOk, IfErr, OnOk, IsErrOf};
 ghost use Rattle.hs_disk.specs.Cause.{Rose};
 ghost use Rattle.hs_disk.specs.Disk.{LeavesOnly};
-ghost use Rattle.redo_journal.specs.Image.{Journals, StandsFor, front};
+ghost use Rattle.redo_journal.specs.Image.{Journals, IsFresh, StandsFor, front};
 ghost use Rattle.redo_journal.specs.Gates.{Throughout};
 ghost use Rattle.redo_journal.specs.Journal.{StandsOn, IsJournalOn};
 ghost use Rattle.redo_journal.specs.Opening.{Opens, RefusesImage, RefusesLoad, RefusesReading};
@@ -25,16 +25,33 @@ pub fn open_on<D: Disk>(
     requires { length schema_text.now < 2 ^ 32 }
 
     // What a read gives stands for the payloads that are handed out, and the journal stands behind them.
-    ensures opened { D.tells → IfOk result (λ opened. StandsFor schema_text.now (payloads_of opened.1.items) (D.seen disk.old) × StandsOn schema_text.now (payloads_of opened.1.items) [] opened.0 (D.seen disk.new) (D.may_leave disk.new)) }
-    ensures stands { D.tells → IfOk result (λ opened. IsJournalOn opened.0 (D.seen disk.new) (D.may_leave disk.new)) }
-    ensures places { IfOk result (λ opened. (opened.1.items ≡ placed (length (front schema_text.now [])) (payloads_of opened.1.items)) × (opened.0.records ≡ length opened.1.items) × (opened.0.due ≡ false)) }
+    ensures reads { D.tells → IfOk result (λ opened.
+        StandsFor schema_text.now (payloads_of opened.1.items) (D.seen disk.old)) }
+    ensures stands { D.tells → IfOk result (λ opened. StandsOn schema_text.now
+        (payloads_of opened.1.items) [] opened.0 (D.seen disk.new) (D.may_leave disk.new)) }
+    ensures is_journal { D.tells → IfOk result (λ opened.
+        IsJournalOn opened.0 (D.seen disk.new) (D.may_leave disk.new)) }
+    ensures places { IfOk result (λ opened. opened.1.items
+        ≡ placed (length (front schema_text.now [])) (payloads_of opened.1.items)) }
+    ensures counted { IfOk result (λ opened. opened.0.records ≡ length opened.1.items) }
+    ensures quiet { IfOk result (λ opened. opened.0.due ≡ false) }
     ensures refused { D.tells → IfErr result (RefusesImage schema_text.now (D.seen disk.old)) }
 
     // Whatever a crash may leave before the call stands for, it stands for at each moment of it.
-    ensures any_moment { D.tells → (payloads : List (List ℕ)) → Throughout (StandsFor schema_text.now payloads) (D.seen disk.old) (D.may_leave disk.old) → LeavesOnly D.moment D.left_since disk.old disk.new (StandsFor schema_text.now payloads) }
+    ensures any_moment { D.tells → (payloads : List (List ℕ))
+        → Throughout (StandsFor schema_text.now payloads) (D.seen disk.old) (D.may_leave disk.old)
+        → LeavesOnly D.moment D.left_since disk.old disk.new
+        (StandsFor schema_text.now payloads) }
+
+    // A disk that something was written to is not touched, whatever the answer.
+    ensures untouched { D.tells → (IsFresh (D.seen disk.old) → ⊥)
+        → D.seen disk.new ≡ D.seen disk.old }
+    ensures harmless { D.tells → (IsFresh (D.seen disk.old) → ⊥)
+        → LeavesOnly D.moment D.left_since disk.old disk.new (D.may_leave disk.old) }
 
     ensures later { D.fault_count disk.old ≤ D.fault_count disk.new }
-    ensures fault { IsErrOf result Refusal.DiskFault → Rose (D.fault_count disk.old) (D.fault_count disk.new) }
+    ensures fault { IsErrOf result Refusal.DiskFault
+        → Rose (D.fault_count disk.old) (D.fault_count disk.new) }
 {
     let image = load(alloc, disk)?;
     if is_fresh(&image) {
@@ -48,11 +65,15 @@ pub fn open_on<D: Disk>(
 fn load<D: Disk>(alloc: Global, disk: &mut D) -> Result<Vec<u8>, Refusal>
     ensures bytes { D.tells → IfOk result (λ image. image.items ≡ D.seen disk.old) }
     ensures bound { IfOk result (λ image. length image.items < 2 ^ 63) }
-    ensures only { D.tells → OnOk result (Throughout (λ image. image ≡ D.seen disk.old) (D.seen disk.new) (D.may_leave disk.new)) }
-    ensures moments { D.tells → LeavesOnly D.moment D.left_since disk.old disk.new (D.may_leave disk.old) }
+    ensures seen { D.tells → D.seen disk.new ≡ D.seen disk.old }
+    ensures only { D.tells → OnOk result (Throughout (λ image. image ≡ D.seen disk.old)
+        (D.seen disk.new) (D.may_leave disk.new)) }
+    ensures moments { D.tells → LeavesOnly D.moment D.left_since disk.old disk.new
+        (D.may_leave disk.old) }
     ensures err { IfErr result RefusesLoad }
     ensures later { D.fault_count disk.old ≤ D.fault_count disk.new }
-    ensures fault { IsErrOf result Refusal.DiskFault → Rose (D.fault_count disk.old) (D.fault_count disk.new) }
+    ensures fault { IsErrOf result Refusal.DiskFault
+        → Rose (D.fault_count disk.old) (D.fault_count disk.new) }
 {
     disk.sync()?;
     let len = disk.len()?;

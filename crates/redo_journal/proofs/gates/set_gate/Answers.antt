@@ -1,5 +1,6 @@
 use Rattle.std.proofs.Common.{◌∷◌, [], List, ℕ, ap, subst, ◌∙◌}
 use Rattle.std.proofs.lemmas.Result.{IfOk-from_err}
+use Rattle.hs_disk.specs.Cause.{next_count}
 use Rattle.hs_disk.specs.Disk.{Torn, written}
 use Rattle.redo_journal.specs.Gates.{InDoubtAfter, SetAfter}
 use Rattle.redo_journal.proofs.GateLemmas.{torn_gate, written_gate}
@@ -41,3 +42,6 @@ returns-clause-passes g c tells front contents place was =
       ok = synced (SetAfter front c.args.byte contents) (disk.seen c.write_at.new.self) (disk.seen c.sync.new.self) (disk.may_leave c.sync.new.self) set (c.sync.ensures.seen tells) (c.in_ok-sync.ensures.durable tells);
       err = tt;
     }
+
+pub returns-clause-calls : goal.returns-clause-calls
+returns-clause-calls g c tells = c.sync.ensures.calls tells ∙ ap next_count (c.write_at.ensures.calls tells)

@@ -2,8 +2,8 @@ use Rattle.std.proofs.Common.{[], ◌∙◌, ap}
 use Rattle.redo_journal.proofs.StandsLemmas.{stands_quiet}
 use Rattle.redo_journal.proofs.open.open_on.Goals as goal
 
-pub returns-then-is_fresh-clause-stands : goal.returns-then-is_fresh-clause-stands
-returns-then-is_fresh-clause-stands g c tells =
+pub returns-then-is_fresh-clause-is_journal : goal.returns-then-is_fresh-clause-is_journal
+returns-then-is_fresh-clause-is_journal g c tells =
     let disk = g.D.Disk in
     let text = c.args.schema_text.now in
     record {

@@ -8,8 +8,8 @@ use Rattle.hs_disk.specs.declared.change.Change.TheVariants.{Lost, LostWrite, Wr
 use Rattle.hs_disk.proofs.WriteLemmas.{failed_writes, done_writes}
 use Rattle.hs_disk.proofs.mem_disk.MemDiskDisk.write_pieces.Goals as goal
 
-pub returns-in_default : goal.returns-in_default
-returns-in_default c =
+pub returns-in_default-clause-writes : goal.returns-in_default-clause-writes
+returns-in_default-clause-writes c =
     let at = c.args.at in
     let bytes = c.args.head.now ++ c.args.body.now ++ c.args.tail.now in
     let old = c.args.self.now in
@@ -18,8 +18,8 @@ returns-in_default c =
     let change : Lost ≡ lost_write at (length bytes) = ap (λ (b : Bool). if b then Lost else LostWrite at (length bytes)) (sym past) in
     failed_writes at bytes old new c.fail.result (subst (λ (change : Change). FailsWith change old new) change c.fail.ensures.new) c.fail.ensures.was_sound c.fail.ensures.sound (ap (λ (b : Bool). b || is_to_fail old || new.short) past)
 
-pub returns-then-is_to_fail : goal.returns-then-is_to_fail
-returns-then-is_to_fail c =
+pub returns-then-is_to_fail-clause-writes : goal.returns-then-is_to_fail-clause-writes
+returns-then-is_to_fail-clause-writes c =
     let at = c.args.at in
     let bytes = c.args.head.now ++ c.args.body.now ++ c.args.tail.now in
     let old = c.args.self.now in
@@ -29,8 +29,8 @@ returns-then-is_to_fail c =
     let change : LostWrite at c.in-Some.len ≡ lost_write at (length bytes) = ap (LostWrite at) c.in-Some.ensures.0 ∙ ap (λ (b : Bool). if b then Lost else LostWrite at (length bytes)) (sym within) in
     failed_writes at bytes old new c.fail-then-is_to_fail.result (subst (λ (change : Change). FailsWith change old new) change c.fail-then-is_to_fail.ensures.new) c.fail-then-is_to_fail.ensures.was_sound c.fail-then-is_to_fail.ensures.sound (λ i. within i || named i || new.short)
 
-pub returns-in-Ok-try_write : goal.returns-in-Ok-try_write
-returns-in-Ok-try_write c =
+pub returns-in-Ok-try_write-clause-writes : goal.returns-in-Ok-try_write-clause-writes
+returns-in-Ok-try_write-clause-writes c =
     let at = c.args.at in
     let bytes = c.args.head.now ++ c.args.body.now ++ c.args.tail.now in
     let old = c.args.self.now in

@@ -1,4 +1,5 @@
 use Rattle.std.proofs.Common.{◌≡◌, inl, inr, ⊎_elim, ℕ, ◌+◌, true, false, List, [], ◌∷◌, ◌++◌, length, refl, sym, ◌∙◌, ap, subst, arith}
+use Rattle.hs_disk.specs.Disk.{calls_after}
 use Rattle.redo_journal.specs.Image.{ClosedAfter, front, counted}
 use Rattle.redo_journal.specs.Gates.{InDoubtAfter, SetAfter, Throughout}
 use Rattle.redo_journal.specs.Journal.{ShowsOldOrNew}
@@ -82,3 +83,6 @@ returns-clause-acknowledged g c tells text payloads doubtful stands =
     let set = c.in_ok-set_gate.ensures.passes tells base (counted payload) place doubt in
     let quiet : Throughout (ClosedAfter (front text (payloads ++ payload ∷ []))) (disk.seen c.set_gate.new.disk) (disk.may_leave c.set_gate.new.disk) = subst (λ (l : List ℕ). Throughout (ClosedAfter l) (disk.seen c.set_gate.new.disk) (disk.may_leave c.set_gate.new.disk)) (sym (front-push text payloads payload)) (widened (SetAfter base 1 (counted payload)) (ClosedAfter (base ++ 1 ∷ counted payload)) (disk.seen c.set_gate.new.disk) (disk.may_leave c.set_gate.new.disk) (set_open base (counted payload)) set.ok) in
     stands_quiet text (payloads ++ payload ∷ []) payload (record { gate = c.self.inside.gate + (5 + length payload); records = c.self.inside.records + 1; due = false }) (disk.seen c.set_gate.new.disk) (disk.may_leave c.set_gate.new.disk) stands.text_fits (fits-push payloads payload stands.payloads_fit c.requires.fits) (omega (arith, place, length-front-push text payloads payload)) (omega (arith, count, length-push payloads payload)) refl quiet
+
+pub returns-clause-calls : goal.returns-clause-calls
+returns-clause-calls g c tells = c.in_ok-set_gate.ensures.calls tells ∙ ap (calls_after 2) (c.in_ok-write_behind.ensures.calls tells)

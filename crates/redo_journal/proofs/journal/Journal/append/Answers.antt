@@ -2,6 +2,7 @@ use Rattle.std.proofs.Common.{◌≡◌, inl, inr, ⊎_elim, ℕ, false, List, [
 use Rattle.std.proofs.lemmas.Bool.{true≢false}
 use Rattle.std.proofs.lemmas.Result.{on_err_weaker, on_ok_weaker}
 use Rattle.redo_journal.specs.Journal.{ShowsOld, ShowsOldOrNew, IsJournalOn}
+use Rattle.redo_journal.proofs.CallLemmas.{appended}
 use Rattle.redo_journal.proofs.Moments.{on_err, either_way, joined, wider}
 use Rattle.redo_journal.proofs.StandsLemmas.{shows_old, shows_new}
 use Rattle.redo_journal.proofs.journal.Journal.append.Goals as goal
@@ -74,3 +75,8 @@ returns-clause-shows_old g c tells text payloads doubtful stands =
     let payload = c.args.payload.now in
     let mid = c.repair.ensures.stands tells text payloads doubtful stands in
     on_err_weaker c.add.result (λ now image left. inr (shows_old text payloads payload c.add.new.self (disk.seen c.add.new.disk) (disk.may_leave c.add.new.disk) now image left)) (c.add.ensures.refused tells text payloads doubtful mid)
+
+pub returns-clause-calls : goal.returns-clause-calls
+returns-clause-calls g c tells =
+    let disk = g.D.Disk in
+    on_ok_weaker c.add.result (appended c.args.self.now.due (disk.calls c.args.disk.now) (disk.calls c.repair.new.disk) (disk.calls c.add.new.disk) (c.in_ok-repair.ensures.calls tells)) (c.add.ensures.calls tells)

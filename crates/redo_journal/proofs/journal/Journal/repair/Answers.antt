@@ -2,6 +2,7 @@ use Rattle.std.proofs.Common.{◌≡◌, ◌≢◌, inl, inr, ⊎_elim, true, fa
 use Rattle.redo_journal.specs.Image.{ClosedAfter, front, counted}
 use Rattle.redo_journal.specs.Gates.{InDoubtAfter, SetAfter}
 use Rattle.redo_journal.specs.Journal.{ShowsOld}
+use Rattle.redo_journal.proofs.CallLemmas.{repaired}
 use Rattle.redo_journal.proofs.GateLemmas.{set_closed}
 use Rattle.redo_journal.proofs.Moments.{widened, wider}
 use Rattle.redo_journal.proofs.StandsLemmas.{shows_either, stands_quiet, stands_in_doubt}
@@ -45,3 +46,9 @@ returns-in_ok-set_gate-clause-stands g c tells text payloads doubtful stands =
     let shut : 0 ≢ 1 = omega arith in
     let quiet = widened (SetAfter base 0 (counted doubtful)) (ClosedAfter base) (disk.seen c.set_gate.new.disk) (disk.may_leave c.set_gate.new.disk) (λ image is. set_closed base 0 (counted doubtful) image shut is) set.ok in
     stands_quiet text payloads doubtful (record { gate = c.self.inside.gate; records = c.self.inside.records; due = false }) (disk.seen c.set_gate.new.disk) (disk.may_leave c.set_gate.new.disk) stands.text_fits stands.payloads_fit place count refl quiet
+
+pub returns-in_ok-set_gate-clause-calls : goal.returns-in_ok-set_gate-clause-calls
+returns-in_ok-set_gate-clause-calls g c tells =
+    let disk = g.D.Disk in
+    let due : c.args.self.now.due ≡ true = ap (λ s. s.due) (sym c.self.view_is) ∙ c.if-self.true in
+    repaired c.args.self.now.due (disk.calls c.args.disk.now) (disk.calls c.set_gate.new.disk) due (c.in_ok-set_gate.ensures.calls tells)
