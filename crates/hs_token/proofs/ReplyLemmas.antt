@@ -1,5 +1,5 @@
 -- A reply, token behind token.
-use Rattle.std.proofs.Common.{◌≡◌, ℕ, ◌<◌, ◌≤◌, ◌^◌, true, leb, List, [], ◌∷◌, ◌++◌, refl, sym, ap, ◌∙◌, arith, append-nil, append_assoc, decimal, Result, Ok, Err, OnErr}
+use Rattle.std.proofs.Common.{◌≡◌, ℕ, suc, ℤ, pos, negsuc, ◌<◌, ◌≤◌, ◌^◌, true, leb, List, [], ◌∷◌, ◌++◌, refl, sym, ap, ◌∙◌, arith, append-nil, append_assoc, decimal, Result, Ok, Err, OnErr, FitsSigned}
 use Rattle.std.proofs.lemmas.Bool.{leb-true, and_parts}
 use Rattle.std.proofs.lemmas.Fmt.{digits_decimal}
 use Rattle.std.specs.List.{AllByRecursion}
@@ -7,15 +7,12 @@ use Rattle.std.specs.Char.{is_ascii_digit}
 use Rattle.std.specs.Str.{all_ascii_digits}
 use Rattle.hs_token.specs.declared.tokens.Token.{Token}
 use Rattle.hs_token.specs.declared.tokens.Token.TheVariants.{Text}
-use Rattle.hs_token.specs.Spelling.{text_spelled, token_spelled, line_spelled, reply_line}
+use Rattle.hs_token.specs.Spelling.{text_spelled, token_spelled, line_spelled, behind_tabs, reply_head, reply_line}
 use Rattle.hs_token.specs.Steps.{Extends}
 use Rattle.hs_token.proofs.Texts.{spelled-plain}
 use Rattle.hs_token.proofs.NumberLemmas.{own}
-
--- each token behind a tab
-abbrev pub behind_tabs : List Token → List ℕ
-behind_tabs [] = []
-behind_tabs (t ∷ ts) = 9 ∷ token_spelled t ++ behind_tabs ts
+use Rattle.std.specs.Int.{w64}
+use Rattle.std.specs.Fmt.{signed_decimal}
 
 pub line_is : (t : Token) (ts : List Token) → line_spelled (t ∷ ts) ≡ token_spelled t ++ behind_tabs ts
 line_is t [] = sym (append-nil (token_spelled t))
@@ -32,11 +29,22 @@ spelled_decimal : (n : ℕ) → n < 2 ^ 64 → text_spelled (decimal n) ≡ deci
 spelled_decimal n lt =
     ap text_spelled (sym (append-nil (decimal n))) ∙ (spelled-plain (decimal n) [] (digits_plain (decimal n) (digits_decimal own n lt)) ∙ append-nil (decimal n))
 
+-- an integer in its printed form stands for itself
+pub spelled_signed : (z : ℤ) → FitsSigned w64 z → text_spelled (signed_decimal z) ≡ signed_decimal z
+spelled_signed (pos n) fits = spelled_decimal n (let lt : n < 2 ^ 63 = omega (arith, fits) in omega arith)
+spelled_signed (negsuc n) fits =
+    ap (λ (l : List ℕ). 45 ∷ l) (spelled_decimal (suc n) (let lt : n < 2 ^ 63 = omega (arith, fits) in omega arith))
+
 pub reply_is : (code columns : ℕ) (ts : List Token) → code < 2 ^ 32 → columns < 2 ^ 32
     → reply_line code columns ts ≡ (decimal code ++ 9 ∷ decimal columns ++ behind_tabs ts) ++ 10 ∷ []
 reply_is code columns ts small few =
     let line = line_is (Text (decimal code)) (Text (decimal columns) ∷ ts) in
     ap (λ (l : List ℕ). l ++ 10 ∷ []) (line ∙ rw (spelled_decimal code (omega arith), spelled_decimal columns (omega arith), append_assoc) refl)
+
+pub reply_parts : (code columns : ℕ) (ts : List Token) → code < 2 ^ 32 → columns < 2 ^ 32
+    → reply_line code columns ts ≡ reply_head code columns ++ behind_tabs ts ++ 10 ∷ []
+reply_parts code columns ts small few =
+    reply_is code columns ts small few ∙ rw (append_assoc, append_assoc) refl
 
 pub reply_whole : (old out : List ℕ) (code columns : ℕ) (ts : List Token) → code < 2 ^ 32 → columns < 2 ^ 32
     → out ++ [] ≡ old ++ (decimal code ++ 9 ∷ decimal columns ++ behind_tabs ts) → out ++ 10 ∷ [] ≡ old ++ reply_line code columns ts

@@ -24,6 +24,15 @@ line_spelled [] = []
 line_spelled (t ∷ []) = token_spelled t
 line_spelled (t ∷ u ∷ ts) = token_spelled t ++ 9 ∷ line_spelled (u ∷ ts)
 
+-- Each token with an HT in front, as in a line the tokens behind the first one are.
+abbrev pub behind_tabs : List Token → List ℕ
+behind_tabs [] = []
+behind_tabs (t ∷ ts) = 9 ∷ token_spelled t ++ behind_tabs ts
+
+-- A reply begins with the code, HT and the number of columns.
+abbrev pub reply_head : ℕ → ℕ → List ℕ
+reply_head code columns = decimal code ++ 9 ∷ decimal columns
+
 -- A reply is a line of the code, the number of columns and the tokens, with its LF.
 abbrev pub reply_line : ℕ → ℕ → List Token → List ℕ
 reply_line code columns tokens = line_spelled (Text (decimal code) ∷ Text (decimal columns) ∷ tokens) ++ 10 ∷ []

@@ -4,7 +4,7 @@ ghost use Rattle.std.specs.Int.{w64};
 ghost use Rattle.std.specs.Fmt.{signed_decimal};
 ghost use Rattle.std.specs.List.{AllByRecursion};
 ghost use Rattle.hs_token.specs.declared.tokens.Token.{Token};
-ghost use Rattle.hs_token.specs.Spelling.{token_spelled, line_spelled, reply_line};
+ghost use Rattle.hs_token.specs.Spelling.{token_spelled, line_spelled, behind_tabs, reply_head, reply_line};
 ghost use Rattle.hs_token.specs.Reading.{IsFirstBad, line_at};
 ghost use Rattle.hs_token.specs.Number.{u32_of, i64_of};
 ghost use Rattle.hs_token.specs.Examples.{long_row, long_row_bytes};
@@ -27,6 +27,12 @@ pub fn lines_are_bad_or_spelled()
         → (ts : List Token) → ts ≢ [] → line ≢ line_spelled ts }
     ensures spelled { (line : List ℕ) → ((place : ℕ) → ¬ IsFirstBad line place)
         → (ts : List Token) × (ts ≢ []) × (line ≡ line_spelled ts) }
+{}
+
+/// A reply is its head, each token behind an HT, and LF.
+pub fn replies_have_parts()
+    ensures parts { (code columns : ℕ) (ts : List Token) → code < 2 ^ 32 → columns < 2 ^ 32
+        → reply_line code columns ts ≡ reply_head code columns ++ behind_tabs ts ++ 10 ∷ [] }
 {}
 
 /// A number in its printed form is read again.

@@ -7,13 +7,15 @@
 //!
 //! A line is its tokens with one HT (0x09) between neighbours, so the empty line is one empty text. No two tokens share a
 //! spelling, and what is written is read again. `decode_line` reads a line and refuses any other spelling at its first bad
-//! byte; `push_token` and `push_reply` write; `parse_u32` and `parse_i64` read the numbers that texts write in decimal.
+//! byte; `push_token` and `push_reply` write, as `push_head`, `push_text` and `push_integer` do without tokens; `parse_u32`
+//! and `parse_i64` read the numbers that texts write in decimal.
 //! Cutting a stream into lines is the work of `hs_line`, and what a token means that of `open_index`.
 #![tactic(auto)]
 
 mod laws;
 mod lines;
 mod numbers;
+mod parts;
 mod replies;
 #[cfg(test)]
 mod tests;
@@ -21,9 +23,10 @@ mod tokens;
 
 pub use laws::{
     example_faults, example_lines, example_numbers, lines_are_bad_or_spelled,
-    printed_numbers_are_read, spellings_are_lines, spellings_are_unique,
+    printed_numbers_are_read, replies_have_parts, spellings_are_lines, spellings_are_unique,
 };
 pub use lines::{TokenFault, decode_line};
 pub use numbers::{parse_i64, parse_u32};
+pub use parts::{push_head, push_integer, push_text};
 pub use replies::push_reply;
 pub use tokens::{Token, push_token};

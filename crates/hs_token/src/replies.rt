@@ -1,6 +1,6 @@
 //! Writing a reply.
 ghost use Rattle.std.specs.Prelude.{◌≡◌, ◌∷◌, ◌++◌, OnOk, OnErr, decimal};
-ghost use Rattle.hs_token.specs.Spelling.{token_spelled, reply_line};
+ghost use Rattle.hs_token.specs.Spelling.{token_spelled, reply_head, reply_line};
 ghost use Rattle.hs_token.specs.Steps.{Extends};
 
 use crate::tokens::{TAB, Token, append_token};
@@ -36,13 +36,21 @@ fn append_reply(
     ensures ok { OnOk result (out.new.items ≡ out.old.items ++ reply_line code columns tokens.now) }
     ensures err { OnErr result (Extends out.old.items out.new.items) }
 {
-    append_number(out, code)?;
-    out.push(TAB)?;
-    append_number(out, columns)?;
+    append_head(out, code, columns)?;
     for token in tokens {
         append_behind_tab(out, token)?;
     }
     Ok(out.push(LINE_FEED)?)
+}
+
+/// Appends what a reply begins with, or a part of it where memory runs out.
+pub(crate) fn append_head(out: &mut Vec<u8>, code: u32, columns: u32) -> Result<(), AllocError>
+    ensures ok { OnOk result (out.new.items ≡ out.old.items ++ reply_head code columns) }
+    ensures err { OnErr result (Extends out.old.items out.new.items) }
+{
+    append_number(out, code)?;
+    out.push(TAB)?;
+    append_number(out, columns)
 }
 
 fn append_behind_tab(out: &mut Vec<u8>, token: &Token) -> Result<(), AllocError>

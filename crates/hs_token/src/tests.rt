@@ -92,6 +92,24 @@ fn a_reply_is_code_columns_tokens_and_a_line_feed(rt: HostRuntime) -> Result<(),
 }
 
 #[test]
+fn a_reply_in_parts_is_the_reply_of_its_tokens(rt: HostRuntime) -> Result<(), Fail> {
+    let alloc = rt.alloc();
+    let mut out = Vec::new(alloc);
+    push_head(&mut out, 0, 3)?;
+    for number in [0, i64::MAX, i64::MIN, -7] {
+        out.push(b'\t')?;
+        push_integer(&mut out, number)?;
+    }
+    out.push(b'\t')?;
+    push_text(&mut out, b"a\x0Fb\x10\x00")?;
+    assert_eq!(rt;
+        out.as_slice(),
+        b"0\t3\t0\t9223372036854775807\t-9223372036854775808\t-7\ta\x01\x4Fb\x10\x01\x40".as_slice()
+    );
+    Ok(())
+}
+
+#[test]
 fn numbers_are_read_up_to_their_edges(rt: HostRuntime) {
     for (text, number) in [
         (b"0".as_slice(), Some(0)),

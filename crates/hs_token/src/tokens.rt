@@ -49,7 +49,8 @@ pub(crate) fn append_token(out: &mut Vec<u8>, token: &Token) -> Result<(), Alloc
     }
 }
 
-fn append_text(out: &mut Vec<u8>, text: &[u8]) -> Result<(), AllocError>
+/// Appends the spelling of a text, or a part of it where memory runs out.
+pub(crate) fn append_text(out: &mut Vec<u8>, text: &[u8]) -> Result<(), AllocError>
     ensures ok { OnOk result (out.new.items ≡ out.old.items ++ text_spelled text.now) }
     ensures err { OnErr result (Extends out.old.items out.new.items) }
 {

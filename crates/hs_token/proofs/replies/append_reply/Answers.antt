@@ -1,7 +1,8 @@
 use Rattle.std.proofs.Common.{◌∙◌, ◌++◌, List, sym, arith}
 use Rattle.std.proofs.lemmas.List.{at_drop_all}
 use Rattle.hs_token.specs.declared.tokens.Token.{Token}
-use Rattle.hs_token.proofs.ReplyLemmas.{behind_tabs, reply_whole, extends_more, on_err}
+use Rattle.hs_token.specs.Spelling.{behind_tabs}
+use Rattle.hs_token.proofs.ReplyLemmas.{reply_whole, extends_more, on_err}
 use Rattle.hs_token.proofs.replies.append_reply.Goals as goal
 
 pub returns-in_err-append_behind_tab-clause-err : goal.returns-in_err-append_behind_tab-clause-err
@@ -10,4 +11,4 @@ returns-in_err-append_behind_tab-clause-err c =
 
 pub returns-clause-ok : goal.returns-clause-ok
 returns-clause-ok c =
-    c.in_ok-push-2.ensures.items ∙ reply_whole c.args.out.now.items c.loop-token.out.items c.args.code c.args.columns c.args.tokens.now (omega (arith, c.ranges.code)) (omega (arith, c.ranges.columns)) (sym (at_drop_all (λ (ts : List Token). c.loop-token.out.items ++ behind_tabs ts) c.args.tokens.now c.loop-token.token-index c.loop-token-test.false) ∙ c.loop-token.invariant.written)
+    c.in_ok-push.ensures.items ∙ reply_whole c.args.out.now.items c.loop-token.out.items c.args.code c.args.columns c.args.tokens.now (omega (arith, c.ranges.code)) (omega (arith, c.ranges.columns)) (sym (at_drop_all (λ (ts : List Token). c.loop-token.out.items ++ behind_tabs ts) c.args.tokens.now c.loop-token.token-index c.loop-token-test.false) ∙ c.loop-token.invariant.written)

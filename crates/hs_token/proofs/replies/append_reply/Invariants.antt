@@ -1,6 +1,6 @@
 use Rattle.std.proofs.Common.{◌≡◌, ◌++◌, ◌∷◌, drop, decimal}
 use Rattle.hs_token.specs.Steps.{Extends}
-use Rattle.hs_token.proofs.ReplyLemmas.{behind_tabs}
+use Rattle.hs_token.specs.Spelling.{behind_tabs}
 use Rattle.hs_token.proofs.replies.append_reply.Given as goal
 
 abbrev pub invariant-loop-token : goal.invariant-loop-token

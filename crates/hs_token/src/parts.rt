@@ -1,0 +1,45 @@
+//! The parts of a reply, for callers that hold numbers and bytes and don't make tokens of them.
+ghost use Rattle.std.specs.Prelude.{◌≡◌, ◌++◌, OnOk, OnErr};
+ghost use Rattle.std.specs.Fmt.{signed_decimal};
+ghost use Rattle.hs_token.specs.Spelling.{text_spelled, reply_head};
+
+use crate::replies::append_head;
+use crate::tokens::append_text;
+use itoa::Buffer;
+use std::alloc::AllocError;
+
+/// Appends what a reply begins with: the code, HT and the number of columns. HT and a token follow for each cell, then LF.
+pub fn push_head(out: &mut Vec<u8>, code: u32, columns: u32) -> Result<(), AllocError>
+    ensures ok { OnOk result (out.new.items ≡ out.old.items ++ reply_head code columns) }
+    ensures err { OnErr result (out.new.items ≡ out.old.items) }
+{
+    let len = out.len();
+    let pushed = append_head(out, code, columns);
+    if pushed.is_err() {
+        out.truncate(len);
+    }
+    pushed
+}
+
+/// Appends the spelling of a text.
+pub fn push_text(out: &mut Vec<u8>, text: &[u8]) -> Result<(), AllocError>
+    ensures ok { OnOk result (out.new.items ≡ out.old.items ++ text_spelled text.now) }
+    ensures err { OnErr result (out.new.items ≡ out.old.items) }
+{
+    let len = out.len();
+    let pushed = append_text(out, text);
+    if pushed.is_err() {
+        out.truncate(len);
+    }
+    pushed
+}
+
+/// Appends an integer in its printed form, which stands for itself.
+pub fn push_integer(out: &mut Vec<u8>, number: i64) -> Result<(), AllocError>
+    ensures ok { OnOk result (out.new.items ≡ out.old.items ++ text_spelled (signed_decimal number)) }
+    ensures err { OnErr result (out.new.items ≡ out.old.items) }
+{
+    let mut buffer = Buffer::new();
+    out.extend_from_slice(buffer.format(number).as_bytes())?;
+    Ok(())
+}
