@@ -30,15 +30,23 @@ module _ {X : Type 0} (test : X → Bool) where
   Falls [] = Unit {0}
   Falls (x ∷ xs) = (test x ≡ false → AllByRecursion (λ y. test y ≡ false) xs) × Falls xs
 
-  count_yes : (x : X) (xs : List X) → test x ≡ true → count_by test (x ∷ xs) ≡ suc (count_by test xs)
+  pub count_yes : (x : X) (xs : List X) → test x ≡ true → count_by test (x ∷ xs) ≡ suc (count_by test xs)
   count_yes x xs passes = let e : cond {A = ℕ} (test x) 1 0 ≡ 1 = rw passes refl in omega (arith, sum_by-cons (λ (y : X). cond (test y) 1 0) x xs, e)
 
-  count_no : (x : X) (xs : List X) → test x ≡ false → count_by test (x ∷ xs) ≡ count_by test xs
+  pub count_no : (x : X) (xs : List X) → test x ≡ false → count_by test (x ∷ xs) ≡ count_by test xs
   count_no x xs fails = let e : cond {A = ℕ} (test x) 1 0 ≡ 0 = rw fails refl in omega (arith, sum_by-cons (λ (y : X). cond (test y) 1 0) x xs, e)
 
   pub count_none : (xs : List X) → AllByRecursion (λ y. test y ≡ false) xs → count_by test xs ≡ 0
   count_none [] none = refl
   count_none (x ∷ xs) none = count_no x xs none.0 ∙ count_none xs none.1
+
+  pub none_from_count : (xs : List X) → count_by test xs ≡ 0 → AllByRecursion (λ y. test y ≡ false) xs
+  none_from_count [] none = tt
+  none_from_count (x ∷ xs) none = by_test (none_from_count xs) (test x) refl
+    where
+      by_test : (count_by test xs ≡ 0 → AllByRecursion (λ (y : X). test y ≡ false) xs) → (b : Bool) → test x ≡ b → AllByRecursion (λ (y : X). test y ≡ false) (x ∷ xs)
+      by_test rest true passes = absurd (omega (arith, count_yes x xs passes, none))
+      by_test rest false fails = (fails, rest (sym (count_no x xs fails) ∙ none))
 
   cut_step : (x : X) (xs : List X) → Falls (x ∷ xs) → IsCut xs (count_by test xs) → (b : Bool) → test x ≡ b → IsCut (x ∷ xs) (count_by test (x ∷ xs))
   cut_step x xs falls rest true passes = let e = count_yes x xs passes in subst (IsCut (x ∷ xs)) (sym e) (passes, rest)

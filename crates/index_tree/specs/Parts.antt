@@ -1,5 +1,5 @@
 -- Lists that a test parts: what passes stands before what does not.
-use Rattle.std.specs.Prelude.{◌≡◌, ℕ, suc, Bool, true, not, List, [], ◌∷◌, ◌++◌, Option, Some, None, cond, filter}
+use Rattle.std.specs.Prelude.{◌≡◌, ℕ, suc, Bool, not, List, [], ◌∷◌, ◌++◌, Option, Some, None, cond, filter}
 use Rattle.std.specs.Option.{option_map}
 
 module _ {X : Type 0} (test : X → Bool) where

@@ -184,22 +184,23 @@ fn a_cut_finds_the_first_behind_it_and_the_last_before_it(rt: HostRuntime) -> Re
 fn a_walk_meets_the_items_as_a_sort_puts_them(rt: HostRuntime) -> Result<(), Fail> {
     let mut numbers = Sorted::new(rt.alloc());
     let mut backwards = Sorted::new(rt.alloc());
-    let mut plain = Vec::new(rt.alloc());
-    let mut key = 1u64;
+    let mut rising = Vec::new(rt.alloc());
+    let mut falling = Vec::new(rt.alloc());
     for count in 0..40 {
         assert_eq!(rt; numbers.tree.len(), count);
-        key = key * 61 % 101;
+        let key = (count * 61 + 7) % 101;
         assert!(rt; numbers.add(key)?);
         assert!(rt; backwards.add(Reverse(key))?);
-        plain.push(key)?;
+        rising.push(key)?;
+        falling.push(Reverse(key))?;
     }
-    plain.sort()?;
-    assert_eq!(rt; numbers.walk_up(rt.alloc(), 99)?, plain);
-    let reversed = backwards.walk_up(rt.alloc(), 99)?;
-    assert_eq!(rt; reversed.first(), Some(&Reverse(plain[39])));
-    plain.reverse();
-    assert_eq!(rt; numbers.walk_down(rt.alloc(), 99)?, plain);
-    assert_eq!(rt; numbers.walk_down(rt.alloc(), 3)?.as_slice(), &plain[..3]);
+    rising.sort()?;
+    falling.sort()?;
+    assert_eq!(rt; numbers.walk_up(rt.alloc(), 99)?, rising);
+    assert_eq!(rt; backwards.walk_up(rt.alloc(), 99)?, falling);
+    rising.reverse();
+    assert_eq!(rt; numbers.walk_down(rt.alloc(), 99)?, rising);
+    assert_eq!(rt; numbers.walk_down(rt.alloc(), 3)?.last(), rising.get(2));
     Ok(())
 }
 
