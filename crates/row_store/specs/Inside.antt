@@ -57,6 +57,10 @@ columns_in order = (order.own.items, order.whole.items)
 abbrev pub GoesBy : List ℕ → RowOrder → Type 0
 GoesBy key order = order.whole.items ≡ order.own.items ++ key
 
+-- The order goes by the columns of its index first.
+abbrev pub BeginsWithOwn : RowOrder → Type 0
+BeginsWithOwn order = (rest : List ℕ) × (order.whole.items ≡ order.own.items ++ rest)
+
 -- What is counted for what a slot keeps: a vacant one once, another not.
 abbrev pub vacancy : Option (List Value) → ℕ
 vacancy None = 1

@@ -4,7 +4,7 @@ ghost use Rattle.index_tree.specs.Contents.{IsInside, Finds};
 ghost use Rattle.index_tree.specs.Parts.{IsParted};
 ghost use Rattle.row_store.specs.Entries.{IsLive, kept, walk};
 ghost use Rattle.row_store.specs.Walks.{IsNew, first_from, last_to, first_like, behind, in_front, slot_in};
-ghost use Rattle.row_store.specs.Inside.{IsOrder, GoesBy, HasRoom, HasAt, columns_in, is_ahead_of, is_past};
+ghost use Rattle.row_store.specs.Inside.{IsOrder, BeginsWithOwn, HasRoom, HasAt, columns_in, is_ahead_of, is_past};
 
 use crate::cuts::{KeyCut, RowCut, is_same, row_in};
 use crate::edge::Edge;
@@ -122,9 +122,9 @@ impl RowOrder {
     }
 
     /// The slot of the first row with the cells of this one at the index's own columns.
-    pub(crate) fn first_like(&self, rows: &[Option<Row>], key: &[u32], row: &Row) -> Option<u32>
+    pub(crate) fn first_like(&self, rows: &[Option<Row>], row: &Row) -> Option<u32>
         requires order { IsOrder rows.now self.now }
-        requires columns { GoesBy key.now self.now }
+        requires columns { BeginsWithOwn self.now }
         ensures { result ≡ slot_in
             (first_like self.now.own.items row.now (walk self.now.whole.items rows.now)) }
     {

@@ -185,7 +185,7 @@ impl RowStore {
             (first_like (order_of self.now index) row.now (walk_of self.now index)) }
         ensures live { IfSome result (IsLive self.now.slots) }
     {
-        self.orders[index as usize].first_like(self.rows.as_slice(), self.key.as_slice(), row)
+        self.orders[index as usize].first_like(self.rows.as_slice(), row)
     }
 
     /// The row behind the one under a slot, in the order of an index.

@@ -14,19 +14,19 @@ first_behind-requires c =
     let rows = c.args.rows.now in
     let row = c.args.row.now in
     let order = c.requires.order in
-    let key = c.args.key.now in
+    let key = c.requires.columns.0 in
     subst (λ (cs : List ℕ). IsParted (is_ahead rows cs (cells cs row) false) c.args.self.now.tree.items) (sym c.as_slice-columns.ensures.value)
-    (subst (IsParted (is_ahead rows own (cells own row) false)) (sym (order.walked ∙ ap (λ (cs : List ℕ). slots_in (walk cs rows)) c.requires.columns))
-    (own_parted own key row rows (subst (λ (cs : List ℕ). IsKeyed cs rows) c.requires.columns order.apart)))
+    (subst (IsParted (is_ahead rows own (cells own row) false)) (sym (order.walked ∙ ap (λ (cs : List ℕ). slots_in (walk cs rows)) c.requires.columns.1))
+    (own_parted own key row rows (subst (λ (cs : List ℕ). IsKeyed cs rows) c.requires.columns.1 order.apart)))
 
 pub returns-in_err-slot : goal.returns-in_err-slot
 returns-in_err-slot c =
     let own = c.args.self.now.own.items in
-    let key = c.args.key.now in
+    let key = c.requires.columns.0 in
     let rows = c.args.rows.now in
     let row = c.args.row.now in
     let order = c.requires.order in
-    let columns = c.requires.columns in
+    let columns = c.requires.columns.1 in
     let found = c.first_behind.ensures
     ∙ ap (λ (cs : List ℕ). find (λ (s : ℕ). not (is_ahead rows cs (cells cs row) false s)) c.args.self.now.tree.items) c.as_slice-columns.ensures.value
     ∙ ap (find (λ (s : ℕ). not (is_ahead rows own (cells own row) false s))) (order.walked ∙ ap (λ (cs : List ℕ). slots_in (walk cs rows)) columns) in
@@ -37,11 +37,11 @@ returns-in_err-slot c =
 pub returns-then-is_same : goal.returns-then-is_same
 returns-then-is_same c =
     let own = c.args.self.now.own.items in
-    let key = c.args.key.now in
+    let key = c.requires.columns.0 in
     let rows = c.args.rows.now in
     let row = c.args.row.now in
     let order = c.requires.order in
-    let columns = c.requires.columns in
+    let columns = c.requires.columns.1 in
     let found = c.first_behind.ensures
     ∙ ap (λ (cs : List ℕ). find (λ (s : ℕ). not (is_ahead rows cs (cells cs row) false s)) c.args.self.now.tree.items) c.as_slice-columns.ensures.value
     ∙ ap (find (λ (s : ℕ). not (is_ahead rows own (cells own row) false s))) (order.walked ∙ ap (λ (cs : List ℕ). slots_in (walk cs rows)) columns) in
@@ -54,11 +54,11 @@ returns-then-is_same c =
 pub returns-else-is_same : goal.returns-else-is_same
 returns-else-is_same c =
     let own = c.args.self.now.own.items in
-    let key = c.args.key.now in
+    let key = c.requires.columns.0 in
     let rows = c.args.rows.now in
     let row = c.args.row.now in
     let order = c.requires.order in
-    let columns = c.requires.columns in
+    let columns = c.requires.columns.1 in
     let found = c.first_behind.ensures
     ∙ ap (λ (cs : List ℕ). find (λ (s : ℕ). not (is_ahead rows cs (cells cs row) false s)) c.args.self.now.tree.items) c.as_slice-columns.ensures.value
     ∙ ap (find (λ (s : ℕ). not (is_ahead rows own (cells own row) false s))) (order.walked ∙ ap (λ (cs : List ℕ). slots_in (walk cs rows)) columns) in
