@@ -4,7 +4,7 @@
 --     parted_from_falls, falls_from_parted      such lists are the parted ones
 --     parted_at_end      the cuts in front of all items and behind them all
 --     cut_at_count, partitioned, count_in_slice      the cut is the number of those that pass, and a search by halves finds it
---     front_is, rest_is, put_is      those that pass, those that don't, and one put between
+--     front_is, rest_is, front_before, rest_behind, put_is      those that pass, those that don't, and one put between
 --     first_place_is, last_place_is      the first that fails, and the last that passes
 use Rattle.std.proofs.Common.{◌≡◌, ℕ, zero, suc, ◌-◌, ◌<◌, ◌≤◌, Bool, true, false, not, cond, List, [], ◌∷◌, ◌++◌, length, get_or, take, drop, Some, None, filter, count_by, nat_lt, sym, refl, ap, subst, ◌∙◌, arith}
 use Rattle.std.specs.List.{AllByRecursion, AllWithin, insert}
@@ -160,6 +160,13 @@ module _ {X : Type 0} (test : X → Bool) where
   put_is x xs parted cut counted =
       let is_cut = subst (IsCut xs) (sym counted) (cut_of_parted xs parted) in
       rw (front_is xs cut is_cut, rest_is xs cut is_cut) refl
+
+  -- those before the cut, and those behind it
+  pub front_before : (xs : List X) → IsParted test xs → (cut : ℕ) → cut ≡ count_by test xs → filter test xs ≡ take cut xs
+  front_before xs parted cut counted = front_is xs cut (subst (IsCut xs) (sym counted) (cut_of_parted xs parted))
+
+  pub rest_behind : (xs : List X) → IsParted test xs → (cut : ℕ) → cut ≡ count_by test xs → filter (λ y. not (test y)) xs ≡ drop cut xs
+  rest_behind xs parted cut counted = rest_is xs cut (subst (IsCut xs) (sym counted) (cut_of_parted xs parted))
 
   last_none : (xs : List X) → AllByRecursion (λ y. test y ≡ false) xs → last_place test xs ≡ None
   last_none [] none = refl
