@@ -4,6 +4,7 @@ pub mod Neighbours
 pub mod NewRows
 pub mod SlotLists
 pub mod WalkChanges
+pub mod WalkedRows
 mod LikeRows
 mod LiveSlots
 mod OrderSteps

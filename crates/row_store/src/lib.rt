@@ -22,6 +22,8 @@ mod store;
 #[cfg(test)]
 mod tests;
 mod vacant;
+mod walks;
 
 pub use edge::Edge;
 pub use store::RowStore;
+pub use walks::Walk;

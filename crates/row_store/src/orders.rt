@@ -4,10 +4,12 @@ ghost use Rattle.index_tree.specs.Contents.{IsInside, Finds};
 ghost use Rattle.index_tree.specs.Parts.{IsParted};
 ghost use Rattle.row_store.specs.Entries.{IsLive, kept, walk};
 ghost use Rattle.row_store.specs.Walks.{IsNew, first_from, last_to, first_like, behind, in_front, slot_in};
+ghost use Rattle.row_store.specs.Walked.{upward, downward};
 ghost use Rattle.row_store.specs.Inside.{IsOrder, BeginsWithOwn, HasRoom, HasAt, columns_in, is_ahead_of, is_past};
 
 use crate::cuts::{KeyCut, RowCut, is_same, row_in};
 use crate::edge::Edge;
+use crate::walks::Walk;
 use index_tree::{Cut, Place, Tree};
 use row_types::{Row, RowKey, Value};
 use std::alloc::{AllocError, Global};
@@ -153,6 +155,38 @@ impl RowOrder {
         ensures { result ≡ slot_in (in_front slot (walk self.now.whole.items rows.now)) }
     {
         self.slot_at(self.tree.prev(self.place_of(rows, slot)))
+    }
+
+    /// The rows from a key on.
+    pub(crate) fn up<'a>(
+        &'a self,
+        rows: &'a [Option<Row>],
+        key: &'a [Value],
+        through: bool,
+    ) -> Walk<'a>
+        requires { IsOrder rows.now self.now }
+        ensures { result
+            ≡ upward self.now.whole.items key.now through (walk self.now.whole.items rows.now) }
+    {
+        let columns = self.whole.as_slice();
+        let cut = KeyCut { rows, columns, key, through };
+        Walk { rows, slots: self.tree.up(&cut) }
+    }
+
+    /// The rows up to a key, the last one first.
+    pub(crate) fn down<'a>(
+        &'a self,
+        rows: &'a [Option<Row>],
+        key: &'a [Value],
+        through: bool,
+    ) -> Walk<'a>
+        requires { IsOrder rows.now self.now }
+        ensures { result
+            ≡ downward self.now.whole.items key.now through (walk self.now.whole.items rows.now) }
+    {
+        let columns = self.whole.as_slice();
+        let cut = KeyCut { rows, columns, key, through };
+        Walk { rows, slots: self.tree.down(&cut) }
     }
 
     // The slot of the first row that does not stand before a cut.

@@ -7,7 +7,8 @@ use crate::orders::RowOrder;
 use crate::room::make_room;
 use crate::rounds::{enter_all, leave_all, shift_all};
 use crate::vacant::{add_slots, drop_slot};
-use row_types::{Row, RowKey};
+use crate::walks::Walk;
+use row_types::{Row, RowKey, Value};
 use std::alloc::{AllocError, Global};
 use std::marker::Model;
 
@@ -35,6 +36,7 @@ impl Model for RowStore {
 impl RowStore {
     ghost use Rattle.row_store.specs.Contents.{order_of, columns_of, walk_of, with_slot};
     ghost use Rattle.row_store.specs.Entries.{kept, vacancies, row_at, IsLive, IsVacant};
+    ghost use Rattle.row_store.specs.Walked.{upward, downward};
     ghost use Rattle.row_store.specs.Walks.{first_from, last_to, first_like, behind, in_front, slot_in, IsNew, IsKeyed};
 
     /// No index and no slot, for rows whose primary key has these columns. Takes no memory.
@@ -206,6 +208,23 @@ impl RowStore {
         ensures live { IfSome result (IsLive self.now.slots) }
     {
         self.orders[index as usize].prev(self.rows.as_slice(), slot)
+    }
+
+    /// The rows of an index from a key on, all that begin with it, or, `through` them, those behind. Takes no memory.
+    pub fn up<'a>(&'a self, index: u32, key: &'a [Value], through: bool) -> Walk<'a>
+        requires { index < length self.now.orders }
+        ensures { result ≡ upward (columns_of self.now index) key.now through (walk_of self.now index) }
+    {
+        self.orders[index as usize].up(self.rows.as_slice(), key, through)
+    }
+
+    /// The rows of an index up to a key, the last one first: those before it, or, `through` them, all that begin with it
+    /// too. Takes no memory.
+    pub fn down<'a>(&'a self, index: u32, key: &'a [Value], through: bool) -> Walk<'a>
+        requires { index < length self.now.orders }
+        ensures { result ≡ downward (columns_of self.now index) key.now through (walk_of self.now index) }
+    {
+        self.orders[index as usize].down(self.rows.as_slice(), key, through)
     }
 
     /// How many rows are kept.
