@@ -45,7 +45,7 @@ module _ (columns : List ℕ) (key : List Value) where
   past_is false xs = refl
   past_is true xs =
       filter_agree (is_past columns key true) (is_from columns (low_edge true key)) xs
-        (all_of (λ (e : Entry). is_past columns key true e ≡ is_from columns (low_edge true key) e) (λ e. twice_not (is_gt (prefix_cmp (cells columns e.0) key))) xs)
+      (all_of (λ (e : Entry). is_past columns key true e ≡ is_from columns (low_edge true key) e) (λ e. twice_not (is_gt (prefix_cmp (cells columns e.0) key))) xs)
 
   -- what stands before it is up to the high edge
   ahead_is : (through : Bool) (xs : List Entry) → filter (is_ahead_of columns key through) xs ≡ filter (is_to columns (high_edge through key)) xs

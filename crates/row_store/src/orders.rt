@@ -169,8 +169,16 @@ impl RowOrder {
             ≡ upward self.now.whole.items key.now through (walk self.now.whole.items rows.now) }
     {
         let columns = self.whole.as_slice();
-        let cut = KeyCut { rows, columns, key, through };
-        Walk { rows, slots: self.tree.up(&cut) }
+        let cut = KeyCut {
+            rows,
+            columns,
+            key,
+            through,
+        };
+        Walk {
+            rows,
+            slots: self.tree.up(&cut),
+        }
     }
 
     /// The rows up to a key, the last one first.
@@ -185,8 +193,16 @@ impl RowOrder {
             ≡ downward self.now.whole.items key.now through (walk self.now.whole.items rows.now) }
     {
         let columns = self.whole.as_slice();
-        let cut = KeyCut { rows, columns, key, through };
-        Walk { rows, slots: self.tree.down(&cut) }
+        let cut = KeyCut {
+            rows,
+            columns,
+            key,
+            through,
+        };
+        Walk {
+            rows,
+            slots: self.tree.down(&cut),
+        }
     }
 
     // The slot of the first row that does not stand before a cut.
