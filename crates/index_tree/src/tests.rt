@@ -125,6 +125,16 @@ impl<K: Ord + Copy> Sorted<K> {
         Some(self.tree.item_at(place))
     }
 
+    fn first_up(&self, cut: &Beside<K>) -> Option<K> {
+        let mut walk = self.tree.up(cut);
+        walk.next()
+    }
+
+    fn first_down(&self, cut: &Beside<K>) -> Option<K> {
+        let mut walk = self.tree.down(cut);
+        walk.next()
+    }
+
     // The items from the first on, as far as `steps` go.
     fn walk_up(&self, alloc: Global, steps: u32) -> Result<Vec<K>, AllocError> {
         let mut items = Vec::new(alloc);
@@ -176,6 +186,18 @@ fn a_cut_finds_the_first_behind_it_and_the_last_before_it(rt: HostRuntime) -> Re
         assert_eq!(rt; numbers.first(&behind(key)), first_after, "behind {key}");
         assert_eq!(rt; numbers.last(&behind(key)), last, "up to {key}");
         assert_eq!(rt; numbers.last(&front(key)), last_before, "before {key}");
+        assert_eq!(rt; numbers.first_up(&front(key)), first, "up from {key}");
+        assert_eq!(rt;
+            numbers.first_up(&behind(key)),
+            first_after,
+            "up behind {key}"
+        );
+        assert_eq!(rt; numbers.first_down(&behind(key)), last, "down from {key}");
+        assert_eq!(rt;
+            numbers.first_down(&front(key)),
+            last_before,
+            "down before {key}"
+        );
     }
     Ok(())
 }

@@ -129,6 +129,31 @@ fn walk_down(alloc: Global, store: &RowStore, index: u32) -> Result<Vec<u32>, Al
     Ok(slots)
 }
 
+// The slots of a walk, which does no search a row.
+fn slots_of(alloc: Global, walk: Walk<'_>) -> Result<Vec<u32>, AllocError> {
+    let mut walk = walk;
+    let mut slots = Vec::new(alloc);
+    for _ in 0..99 {
+        let Some((slot, _)) = walk.next() else {
+            return Ok(slots);
+        };
+        slots.push(slot)?;
+    }
+    Ok(slots)
+}
+
+// The id of a walk's first row.
+fn first_of(walk: Walk<'_>) -> i64 {
+    let mut walk = walk;
+    match walk.next() {
+        None => -1,
+        Some((_, row)) => match row.as_slice().first() {
+            Some(Value::Int(id)) => *id,
+            _ => -2,
+        },
+    }
+}
+
 /// A store by id, by town, and by number and town; and the plain list of all people.
 #[derive(Drop)]
 struct People {
@@ -218,8 +243,12 @@ impl People {
         for index in 0..3 {
             let mut slots = self.sorted(alloc, index)?;
             right &= walk_up(alloc, &self.store, index)?.as_slice() == slots.as_slice();
+            let up = slots_of(alloc, self.store.up(index, &[], false))?;
+            right &= up.as_slice() == slots.as_slice();
             slots.reverse();
             right &= walk_down(alloc, &self.store, index)?.as_slice() == slots.as_slice();
+            let down = slots_of(alloc, self.store.down(index, &[], true))?;
+            right &= down.as_slice() == slots.as_slice();
         }
         Ok(right)
     }
@@ -310,6 +339,15 @@ fn an_edge_is_a_key_or_the_first_cells_of_one(rt: HostRuntime) -> Result<(), Fai
         (3, (3, b'b', Some(5)), 3, 7, 3, 2),
         (3, (2, b'b', Some(5)), 3, 3, 2, 2),
     ] {
+        let key = key_of(alloc, values, person)?;
+        for (walk, id) in [
+            (store.up(2, key.as_slice(), false), from_with),
+            (store.up(2, key.as_slice(), true), from_without),
+            (store.down(2, key.as_slice(), true), to_with),
+            (store.down(2, key.as_slice(), false), to_without),
+        ] {
+            assert_eq!(rt; first_of(walk), id, "a walk at {key:?}");
+        }
         let with = Edge::With(key_of(alloc, values, person)?);
         let without = Edge::Without(key_of(alloc, values, person)?);
         assert_eq!(rt;
