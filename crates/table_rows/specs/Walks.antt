@@ -7,6 +7,9 @@ use Rattle.row_types.specs.declared.indexes.IndexDef.{IndexDef}
 use Rattle.row_store.specs.declared.edge.Edge.{Edge}
 use Rattle.row_store.specs.Entries.{Entry, entry_cmp}
 use Rattle.row_store.specs.Walks.{first_from, last_to, behind, in_front}
+use Rattle.row_store.specs.Walked.{upward, downward}
+use Rattle.table_rows.specs.declared.bound.Bound.{Bound}
+use Rattle.table_rows.specs.declared.bound.Bound.TheVariants.{From, Behind, To, Before}
 use Rattle.table_rows.specs.declared.slot_ref.SlotRef.{SlotRef}
 use Rattle.table_rows.specs.Rows.{State, indexes_of, entries_of}
 use Rattle.table_rows.specs.Indexes.{index_columns}
@@ -27,6 +30,13 @@ slot_of entry = option_map (λ (found : Entry). record { 0 = found.1 }) entry
 abbrev pub begun : Bool → List ℕ → Edge (List Value) → List Entry → Option Entry
 begun false columns edge entries = first_from columns edge entries
 begun true columns edge entries = last_to columns edge entries
+
+-- The entries of a walk that begins there.
+abbrev pub walked : Bound → List ℕ → List Value → List Entry → List Entry
+walked From columns key entries = upward columns key false entries
+walked Behind columns key entries = upward columns key true entries
+walked To columns key entries = downward columns key true entries
+walked Before columns key entries = downward columns key false entries
 
 -- How a walk goes on from a slot: to the entry behind it, or, downward, in front of it.
 abbrev pub gone_on : Bool → ℕ → List Entry → Option Entry

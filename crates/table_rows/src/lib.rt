@@ -13,6 +13,7 @@
 //! `row_store`, selecting rows that of `find_scan`, and what a batch of changes is on disk that of `change_set`.
 #![tactic(auto)]
 
+mod bound;
 mod checks;
 mod dups;
 mod laws;
@@ -25,10 +26,13 @@ mod tests;
 mod undo;
 mod undo_list;
 mod verdict;
+mod walk;
 
+pub use bound::Bound;
 pub use laws::{worked_changes, worked_verdicts};
 pub use slot_ref::SlotRef;
 pub use tables::Tables;
 pub use undo::Undo;
 pub use undo_list::UndoList;
 pub use verdict::Verdict;
+pub use walk::Walk;

@@ -6,10 +6,12 @@ ghost use Rattle.table_rows.specs.Rows.{Rows};
 ghost use Rattle.table_rows.specs.Indexes.{primary_of, parts_of};
 ghost use Rattle.table_rows.specs.Slots.{IsVacant, is_live, row_of, without};
 ghost use Rattle.table_rows.specs.Table.{Table, empty_table, with_room, with_row_in, without_in, parts_by, columns_by, walk_by};
-ghost use Rattle.table_rows.specs.Walks.{begun, gone_on};
+ghost use Rattle.table_rows.specs.Walks.{begun, gone_on, walked};
 
+use crate::bound::Bound;
+use crate::walk::Walk;
 use row_store::{Edge, RowStore};
-use row_types::{IndexDef, IndexKind, Row, RowKey, TableDef};
+use row_types::{IndexDef, IndexKind, Row, RowKey, TableDef, Value};
 use std::alloc::{AllocError, Global};
 use std::marker::Model;
 
@@ -127,6 +129,21 @@ impl OneTable {
             self.store.prev(index, slot)
         } else {
             self.store.next(index, slot)
+        }
+    }
+
+    /// The rows of an index from a bound on.
+    pub(crate) fn walk<'a>(&'a self, index: u32, key: &'a [Value], bound: Bound) -> Walk<'a>
+        requires { index < length self.now.orders }
+        ensures { result
+            ≡ walked bound (columns_by self.now index) key.now (walk_by self.now index) }
+    {
+        let _ = self.store.count();
+        match bound {
+            Bound::From => Walk::of(self.store.up(index, key, false)),
+            Bound::Behind => Walk::of(self.store.up(index, key, true)),
+            Bound::To => Walk::of(self.store.down(index, key, true)),
+            Bound::Before => Walk::of(self.store.down(index, key, false)),
         }
     }
 

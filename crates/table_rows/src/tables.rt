@@ -6,7 +6,7 @@ ghost use Rattle.table_rows.specs.Indexes.{parts_at, index_columns};
 ghost use Rattle.table_rows.specs.Slots.{IsVacant, is_live_in, row_at, with_row_at, without, without_at};
 ghost use Rattle.table_rows.specs.Sizes.{total, total_with, size_instead, most_bytes};
 ghost use Rattle.table_rows.specs.Checks.{IsRow, IsPlaceable, IsAllowed, verdict_of};
-ghost use Rattle.table_rows.specs.Walks.{walk_of, begun, gone_on, slot_of};
+ghost use Rattle.table_rows.specs.Walks.{walk_of, begun, gone_on, walked, slot_of};
 ghost use Rattle.row_types.specs.Size.{row_size};
 ghost use Rattle.table_rows.specs.Valid.{AreValidRows, IsValidState};
 ghost use Rattle.table_rows.specs.Widths.{IsWidened, empty_state};
@@ -16,6 +16,7 @@ ghost use Rattle.table_rows.specs.declared.undo.Undo.TheVariants.{Put, Replaced,
 
 mod inner;
 
+use crate::bound::Bound;
 use crate::checks::{first_found, is_full, null_column};
 use crate::dups::dup_index;
 use crate::one_table::{OneTable, empty_tables};
@@ -24,8 +25,9 @@ use crate::slot_ref::SlotRef;
 use crate::undo::Undo;
 use crate::undo_list::UndoList;
 use crate::verdict::Verdict;
+use crate::walk::Walk;
 use row_store::Edge;
-use row_types::{Row, RowKey, Schema, TableDef, row_size};
+use row_types::{Row, RowKey, Schema, TableDef, Value, row_size};
 use std::alloc::{AllocError, Global};
 use std::marker::Model;
 
@@ -199,6 +201,16 @@ impl Tables {
     {
         let found = self.store(table).go_on(index, slot.0, down);
         slot_ref(found)
+    }
+
+    /// The rows of an index, from a bound at a key of some of its first cells. Takes no memory.
+    pub fn walk<'a>(&'a self, table: u32, index: u32, key: &'a [Value], bound: Bound) -> Walk<'a>
+        requires table { table < length self.now.tables }
+        requires index { index < length (indexes_of self.now table) }
+        ensures { result ≡ walked bound (index_columns (indexes_of self.now table) index)
+            key.now (walk_of self.now table index) }
+    {
+        self.store(table).walk(index, key, bound)
     }
 
     /// The row in a slot.
