@@ -6,10 +6,10 @@
 //!     by the second cell:  3, 0, 1
 //!
 //! `reserve` and `add_order` are the calls that take memory. Where a slot is vacant `put` can't be refused, and neither
-//! can `put_at`, `replace` and `take`, so that whatever was done can be undone. `first_from`, `last_to` and `first_like`
-//! find where a walk begins, `next` and `prev` go on from the slot that they are given. An index goes by its own cells and
-//! then by those of the primary key; no copy of a cell is kept beside the rows. Which rows may stand beside each other in
-//! an index, what is undone and which tables there are is left to `table_rows`.
+//! can `put_at`, `replace` and `take`, so that whatever was done can be undone. `up` and `down` walk an index from a key;
+//! `first_from`, `last_to` and `first_like` find where a walk begins, and `next` and `prev` go on from a slot, at a search a
+//! row. An index goes by its own cells and then by those of the primary key; no copy of a cell is kept beside the rows.
+//! Which rows may stand beside each other, what is undone and which tables there are is left to `table_rows`.
 #![tactic(auto)]
 
 mod cells;

@@ -6,7 +6,8 @@
 //! | `check_put` | whether a row may come in: NULL where it is forbidden, a clash in an index, want of space, or nothing |
 //! | `put`, `replace`, `delete` | a change, noted in an `UndoList` |
 //! | `undo_to` | takes back all changes since a mark |
-//! | `seek`, `step`, `row` | the walk of an index, in the order of its parts and then of the primary key |
+//! | `walk` | the rows of an index from a key on, up or down, by its parts and then the primary key, without a search a row |
+//! | `seek`, `step`, `row` | the same by slots, with a search a row, for walks between changes |
 //!
 //! A row is named by its slot, from the change that puts it there to the one that deletes it. Contracts see a table as
 //! the list of its rows, each beside its slot, ascending by primary key. How a store keeps them is the work of

@@ -6,7 +6,7 @@ ghost use Rattle.table_rows.specs.Examples.{some_columns, some_schema, IsPlay};
 
 use super::plays::{delete, nth, take_back, try_put, try_replace};
 use super::table::{code, row};
-use crate::{SlotRef, Tables, Undo, UndoList, Verdict};
+use crate::{Bound, SlotRef, Tables, Undo, UndoList, Verdict, Walk};
 use row_store::Edge;
 use row_types::{Row, cmp_keys, copy_row};
 use std::alloc::{AllocError, Global};
@@ -72,6 +72,44 @@ pub(super) fn agrees(tables: &Tables, plain: &[Kept], index: u32, columns: &[u32
     here.is_none()
 }
 
+// Whether a walk that does no search goes the same way as the steps, and back.
+pub(super) fn walks_agree(tables: &Tables, index: u32) -> bool
+    requires schema { tables.now.schema ≡ some_schema }
+    requires tables { 0 < length tables.now.tables }
+    requires index { index < 3 }
+{
+    goes(
+        tables.walk(0, index, &[], Bound::From),
+        tables,
+        index,
+        false,
+    ) && goes(tables.walk(0, index, &[], Bound::To), tables, index, true)
+}
+
+fn goes(walk: Walk<'_>, tables: &Tables, index: u32, down: bool) -> bool
+    requires schema { tables.now.schema ≡ some_schema }
+    requires tables { 0 < length tables.now.tables }
+    requires index { index < 3 }
+{
+    let mut walk = walk;
+    let mut here = tables.seek(0, index, &Edge::Open, down);
+    for _ in 0..tables.count(0) {
+        let at = match here {
+            None => return false,
+            Some(at) => at,
+        };
+        let (slot, row) = match walk.next() {
+            None => return false,
+            Some(found) => found,
+        };
+        if at != slot || cmp_keys(tables.row(0, at), row) != Ordering::Equal {
+            return false;
+        }
+        here = tables.step(0, index, at, down);
+    }
+    here.is_none() && walk.next().is_none()
+}
+
 // Whether a row stands after that of a slot, if one is meant.
 pub(super) fn stands_after(
     tables: &Tables,
@@ -97,6 +135,9 @@ pub(super) fn all_agree(tables: &Tables, plain: &[Kept]) -> bool
         && agrees(tables, plain, 0, &[0, 2])
         && agrees(tables, plain, 1, &[1, 0, 2])
         && agrees(tables, plain, 2, &[2, 0])
+        && walks_agree(tables, 0)
+        && walks_agree(tables, 1)
+        && walks_agree(tables, 2)
 }
 
 // The rows now, and those at the mark.
