@@ -1,18 +1,22 @@
 -- Items of which no two compare Equal.
 --     apart_from_ascending, apart_kept, apart_removed, apart_first, apart_rest      of ascending lists, and of parts
 --     apart_to_front, apart_to_middle, apart_last      an item in the middle may as well stand first
+--     apart_permuted      in any order
 --     apart_at      two places whose items compare Equal are one
 --     apart_finer, apart_mapped, apart_unmapped      an order that ties less, and through a function
-use Rattle.std.proofs.Common.{◌≡◌, ℕ, zero, suc, Bool, true, false, cond, List, [], ◌∷◌, ◌++◌, map, filter, remove, slice_get, Some, sym, refl, ap, subst, ◌∙◌}
+use Rattle.std.proofs.Common.{◌≡◌, ℕ, zero, suc, ◌≤◌, Bool, true, false, cond, List, [], ◌∷◌, ◌++◌, map, filter, remove, slice_get, Some, IsPermutation, count_by, sym, refl, ap, subst, ◌∙◌, arith}
 use Rattle.std.specs.declared.cmp.Ordering.{Ordering}
 use Rattle.std.specs.declared.cmp.Ordering.TheVariants.{Less}
 use Rattle.std.specs.Ordering.{is_eq}
 use Rattle.std.specs.Cmp.{IsTotalOrder}
 use Rattle.std.specs.List.{AllByRecursion}
 use Rattle.std.proofs.lemmas.Bool.{true≢false}
+use Rattle.std.proofs.lemmas.Cmp.{tied_itself}
+use Rattle.std.proofs.lemmas.List.Sorted.{sum_by-IsPermutation}
 use Rattle.std.proofs.lemmas.Option.{same_Some}
 use Rattle.index_tree.specs.Ordered.{IsAscending, IsApartFrom, AreApart}
-use Rattle.index_tree.proofs.Ascending.{apart_back}
+use Rattle.index_tree.proofs.Ascending.{apart_back, equal_is}
+use Rattle.index_tree.proofs.Cuts.{count_yes, count_no, count_none, none_from_count}
 use Rattle.index_tree.proofs.Elements.{some_is_none, all_kept, all_weaker, all_append, all_front, all_back, all_middle, all_but_middle, all_removed, all_mapped, all_unmapped, all_at}
 
 module _ {X : Type 0} (cmp : X → X → Ordering) where
@@ -88,3 +92,31 @@ module _ {X : Type 0} (cmp : X → X → Ordering) (order : IsTotalOrder cmp) wh
       let there = apart_back cmp order w x (all_at (λ (z : X). is_eq (cmp w z) ≡ false) xs i x apart.0 first) in
       absurd (true≢false (sym ties ∙ subst (λ (z : X). is_eq (cmp x z) ≡ false) (same_Some w y second) there))
   apart_at (w ∷ xs) apart (suc i) (suc j) x y first second ties = ap suc (apart_at xs apart.1 i j x y first second ties)
+
+  at_most_once : (xs : List X) → AreApart cmp xs → (z : X) → count_by (λ y. is_eq (cmp z y)) xs ≤ 1
+  at_most_once [] apart z = omega arith
+  at_most_once (x ∷ xs) apart z = by_test (at_most_once xs apart.1 z) (is_eq (cmp z x)) refl
+    where
+      test : X → Bool
+      test y = is_eq (cmp z y)
+
+      by_test : count_by test xs ≤ 1 → (b : Bool) → test x ≡ b → count_by test (x ∷ xs) ≤ 1
+      by_test rest true ties =
+          let none = count_none test xs (all_weaker (λ (y : X). is_eq (cmp x y) ≡ false) (λ (y : X). test y ≡ false) (λ y other. ap is_eq (order.congr z x y (equal_is (cmp z x) ties)) ∙ other) xs apart.0) in
+          omega (arith, count_yes test x xs ties, none)
+      by_test rest false other = omega (arith, count_no test x xs other, rest)
+
+  apart_from_count : (xs : List X) → ((z : X) → count_by (λ y. is_eq (cmp z y)) xs ≤ 1) → AreApart cmp xs
+  apart_from_count [] once = tt
+  apart_from_count (x ∷ xs) once =
+      let here = count_yes (λ (y : X). is_eq (cmp x y)) x xs (ap is_eq (tied_itself order x)) in
+      (none_from_count (λ (y : X). is_eq (cmp x y)) xs (omega (arith, here, once x)), apart_from_count xs (λ z. by_test z (is_eq (cmp z x)) refl))
+    where
+      by_test : (z : X) (b : Bool) → is_eq (cmp z x) ≡ b → count_by (λ (y : X). is_eq (cmp z y)) xs ≤ 1
+      by_test z true ties = omega (arith, count_yes (λ (y : X). is_eq (cmp z y)) x xs ties, once z)
+      by_test z false other = omega (arith, count_no (λ (y : X). is_eq (cmp z y)) x xs other, once z)
+
+  -- items apart stay so in any order
+  pub apart_permuted : (xs ys : List X) → IsPermutation xs ys → AreApart cmp xs → AreApart cmp ys
+  apart_permuted xs ys permuted apart =
+      apart_from_count ys (λ z. omega (arith, sum_by-IsPermutation (λ (y : X). cond (is_eq (cmp z y)) 1 0) xs ys permuted, at_most_once xs apart z))

@@ -13,7 +13,7 @@ use Rattle.std.specs.Cmp.{IsTotalOrder}
 use Rattle.std.specs.List.{AllByRecursion}
 use Rattle.std.proofs.lemmas.Bool.{not-true, not_from_false, true≢false}
 use Rattle.std.proofs.lemmas.Cmp.{upto}
-use Rattle.index_tree.specs.Parts.{IsParted, put_between}
+use Rattle.index_tree.specs.Parts.{IsParted}
 use Rattle.index_tree.specs.Ordered.{IsAscending, IsApartFrom, IsClosedDown, is_below, is_through, with_item}
 use Rattle.index_tree.proofs.Cuts.{Falls, parted_from_falls}
 use Rattle.index_tree.proofs.Elements.{all_kept, all_weaker, all_append, all_front, all_removed, all_mapped, all_unmapped, all_members, each_member, contains_first, contains_later, kept_passes, member_of_kept}

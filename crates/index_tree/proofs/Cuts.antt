@@ -4,7 +4,7 @@
 --     parted_from_falls, falls_from_parted      such lists are the parted ones
 --     parted_at_end      the cuts in front of all items and behind them all
 --     cut_at_count, partitioned, count_in_slice      the cut is the number of those that pass, and a search by halves finds it
---     front_is, rest_is, put_is      those that pass, those that don't, and one put between
+--     front_is, rest_is, front_before, rest_behind, put_is      those that pass, those that don't, and one put between
 --     first_place_is, last_place_is      the first that fails, and the last that passes
 use Rattle.std.proofs.Common.{◌≡◌, ℕ, zero, suc, ◌-◌, ◌<◌, ◌≤◌, Bool, true, false, not, cond, List, [], ◌∷◌, ◌++◌, length, get_or, take, drop, Some, None, filter, count_by, nat_lt, sym, refl, ap, subst, ◌∙◌, arith}
 use Rattle.std.specs.List.{AllByRecursion, AllWithin, insert}
@@ -30,15 +30,23 @@ module _ {X : Type 0} (test : X → Bool) where
   Falls [] = Unit {0}
   Falls (x ∷ xs) = (test x ≡ false → AllByRecursion (λ y. test y ≡ false) xs) × Falls xs
 
-  count_yes : (x : X) (xs : List X) → test x ≡ true → count_by test (x ∷ xs) ≡ suc (count_by test xs)
+  pub count_yes : (x : X) (xs : List X) → test x ≡ true → count_by test (x ∷ xs) ≡ suc (count_by test xs)
   count_yes x xs passes = let e : cond {A = ℕ} (test x) 1 0 ≡ 1 = rw passes refl in omega (arith, sum_by-cons (λ (y : X). cond (test y) 1 0) x xs, e)
 
-  count_no : (x : X) (xs : List X) → test x ≡ false → count_by test (x ∷ xs) ≡ count_by test xs
+  pub count_no : (x : X) (xs : List X) → test x ≡ false → count_by test (x ∷ xs) ≡ count_by test xs
   count_no x xs fails = let e : cond {A = ℕ} (test x) 1 0 ≡ 0 = rw fails refl in omega (arith, sum_by-cons (λ (y : X). cond (test y) 1 0) x xs, e)
 
   pub count_none : (xs : List X) → AllByRecursion (λ y. test y ≡ false) xs → count_by test xs ≡ 0
   count_none [] none = refl
   count_none (x ∷ xs) none = count_no x xs none.0 ∙ count_none xs none.1
+
+  pub none_from_count : (xs : List X) → count_by test xs ≡ 0 → AllByRecursion (λ y. test y ≡ false) xs
+  none_from_count [] none = tt
+  none_from_count (x ∷ xs) none = by_test (none_from_count xs) (test x) refl
+    where
+      by_test : (count_by test xs ≡ 0 → AllByRecursion (λ (y : X). test y ≡ false) xs) → (b : Bool) → test x ≡ b → AllByRecursion (λ (y : X). test y ≡ false) (x ∷ xs)
+      by_test rest true passes = absurd (omega (arith, count_yes x xs passes, none))
+      by_test rest false fails = (fails, rest (sym (count_no x xs fails) ∙ none))
 
   cut_step : (x : X) (xs : List X) → Falls (x ∷ xs) → IsCut xs (count_by test xs) → (b : Bool) → test x ≡ b → IsCut (x ∷ xs) (count_by test (x ∷ xs))
   cut_step x xs falls rest true passes = let e = count_yes x xs passes in subst (IsCut (x ∷ xs)) (sym e) (passes, rest)
@@ -152,6 +160,13 @@ module _ {X : Type 0} (test : X → Bool) where
   put_is x xs parted cut counted =
       let is_cut = subst (IsCut xs) (sym counted) (cut_of_parted xs parted) in
       rw (front_is xs cut is_cut, rest_is xs cut is_cut) refl
+
+  -- those before the cut, and those behind it
+  pub front_before : (xs : List X) → IsParted test xs → (cut : ℕ) → cut ≡ count_by test xs → filter test xs ≡ take cut xs
+  front_before xs parted cut counted = front_is xs cut (subst (IsCut xs) (sym counted) (cut_of_parted xs parted))
+
+  pub rest_behind : (xs : List X) → IsParted test xs → (cut : ℕ) → cut ≡ count_by test xs → filter (λ y. not (test y)) xs ≡ drop cut xs
+  rest_behind xs parted cut counted = rest_is xs cut (subst (IsCut xs) (sym counted) (cut_of_parted xs parted))
 
   last_none : (xs : List X) → AllByRecursion (λ y. test y ≡ false) xs → last_place test xs ≡ None
   last_none [] none = refl

@@ -1,22 +1,18 @@
 -- Items sorted.
 --     in_order_permutes, in_order_members, length-in_order, all_in_order      the members are the same
---     ascending_in_order, in_order_is, in_order_ascending, in_order_alike      the sorted list is the ascending one
---     in_order_middle, in_order_last, in_order_kept      an item more at any place, and what a filter keeps
---     in_order_without      an item less at any place
+--     ascending_in_order, in_order_is, in_order_ascending, in_order_alike, in_order_permuted      the sorted list is the ascending one
+--     in_order_middle, in_order_kept      an item more at any place, and what a filter keeps
 --     in_order_agree, in_order_mapped      another order, and through a function
-use Rattle.std.proofs.Common.{◌≡◌, ◌⊎◌, suc, Bool, true, false, not, List, [], ◌∷◌, ◌++◌, length, map, filter, Contains, IsPermutation, sym, refl, ap, subst, ◌∙◌, inl, inr}
+use Rattle.std.proofs.Common.{◌≡◌, Bool, false, not, List, [], ◌∷◌, ◌++◌, length, map, filter, Contains, IsPermutation, sym, refl, ap, ◌∙◌}
 use Rattle.std.specs.declared.cmp.Ordering.{Ordering}
 use Rattle.std.specs.Ordering.{is_lt, is_eq}
 use Rattle.std.specs.Cmp.{IsTotalOrder}
 use Rattle.std.specs.List.{AllByRecursion}
-use Rattle.std.proofs.lemmas.Bool.{true≢false}
-use Rattle.std.proofs.lemmas.Cmp.{tied_itself}
 use Rattle.std.proofs.lemmas.List.Sorted.{IsPermutation-cons, IsPermutation-refl, IsPermutation-trans, length_permutation}
-use Rattle.index_tree.specs.Parts.{put_between}
-use Rattle.index_tree.specs.Ordered.{IsAscending, IsApartFrom, AreApart, HaveSameMembers, is_below, is_other, with_item, in_order}
-use Rattle.index_tree.proofs.Apart.{apart_from_ascending, apart_kept, apart_to_front, apart_to_middle}
-use Rattle.index_tree.proofs.Ascending.{apart_back, ascending_kept, ascending_with_item}
-use Rattle.index_tree.proofs.Elements.{all_members, all_weaker, each_member, contains_first, contains_later, contains_cases, kept_member, member_of_kept, kept_passes, filter_agree}
+use Rattle.index_tree.specs.Ordered.{IsAscending, AreApart, HaveSameMembers, is_below, with_item, in_order}
+use Rattle.index_tree.proofs.Apart.{apart_from_ascending, apart_kept, apart_permuted, apart_to_front}
+use Rattle.index_tree.proofs.Ascending.{ascending_kept, ascending_with_item}
+use Rattle.index_tree.proofs.Elements.{each_member, contains_first, contains_later, filter_agree}
 use Rattle.index_tree.proofs.Members.{put_permutes, same_members_itself, same_members_back, same_members_then, same_members_permuted, same_members_middle, same_members_kept, all_same, ascending_unique}
 use Rattle.index_tree.proofs.Through.{map_put_between}
 
@@ -66,6 +62,10 @@ module _ {X : Type 0} (cmp : X → X → Ordering) (order : IsTotalOrder cmp) wh
   -- lists with the same members are sorted alike
   pub in_order_alike : (xs ys : List X) → AreApart cmp xs → AreApart cmp ys → HaveSameMembers xs ys → in_order cmp xs ≡ in_order cmp ys
   in_order_alike xs ys first second same = in_order_is (in_order cmp xs) ys (ascending_in_order xs first) second (same_members_then (in_order cmp xs) xs ys (same_members_back xs (in_order cmp xs) (in_order_members cmp xs)) same)
+
+  -- and so is any permutation
+  pub in_order_permuted : (xs ys : List X) → IsPermutation xs ys → AreApart cmp xs → in_order cmp xs ≡ in_order cmp ys
+  in_order_permuted xs ys permuted apart = in_order_alike xs ys apart (apart_permuted cmp order xs ys permuted apart) (same_members_permuted xs ys permuted)
 
   -- an item more, at any place
   pub in_order_middle : (xs : List X) (x : X) (ys : List X) → AreApart cmp (xs ++ x ∷ ys) → in_order cmp (xs ++ x ∷ ys) ≡ with_item cmp x (in_order cmp (xs ++ ys))

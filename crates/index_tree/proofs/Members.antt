@@ -3,10 +3,10 @@
 --     same_members_itself, same_members_back, same_members_then, same_members_permuted, same_members_middle      lists
 --     same_members_kept, all_same      what a filter keeps of both, and what holds of the members of both
 --     ascending_unique      two ascending lists with the same members are one
-use Rattle.std.proofs.Common.{◌≡◌, ◌⊎◌, ℕ, suc, Bool, true, not, List, [], ◌∷◌, ◌++◌, length, filter, Contains, IsPermutation, sym, refl, ap, subst, ◌∙◌, inl, inr}
+use Rattle.std.proofs.Common.{◌≡◌, ◌⊎◌, suc, Bool, not, List, [], ◌∷◌, ◌++◌, length, filter, Contains, IsPermutation, sym, refl, ap, subst, ◌∙◌, inl, inr}
 use Rattle.std.specs.declared.cmp.Ordering.{Ordering}
 use Rattle.std.specs.declared.cmp.Ordering.TheVariants.{Less}
-use Rattle.std.specs.Ordering.{is_lt, is_eq}
+use Rattle.std.specs.Ordering.{is_lt}
 use Rattle.std.specs.Cmp.{IsTotalOrder}
 use Rattle.std.specs.List.{AllByRecursion}
 use Rattle.std.proofs.lemmas.Bool.{true≢false}

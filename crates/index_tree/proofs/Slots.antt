@@ -4,13 +4,11 @@
 --     slots_without      after a removal
 --     slots_kept, slots_first_key, slots_last_key      what a filter keeps, and where the slot of a key stands
 --     slots_agree      keys that don't change leave it so
-use Rattle.std.proofs.Common.{◌≡◌, ℕ, suc, Bool, true, not, List, [], ◌∷◌, ◌++◌, map, filter, remove, slice_get, Contains, Some, option_map, sym, refl, ap, subst, ◌∙◌}
+use Rattle.std.proofs.Common.{◌≡◌, ℕ, Bool, true, not, List, [], ◌∷◌, ◌++◌, map, filter, remove, slice_get, Some, option_map, sym, ap, subst, ◌∙◌}
 use Rattle.std.specs.declared.cmp.Ordering.{Ordering}
-use Rattle.std.specs.declared.cmp.Ordering.TheVariants.{Equal}
 use Rattle.std.specs.Cmp.{IsTotalOrder}
 use Rattle.std.specs.List.{AllByRecursion}
 use Rattle.std.specs.Ordering.{is_eq}
-use Rattle.std.proofs.lemmas.Cmp.{tied_itself}
 use Rattle.std.proofs.lemmas.List.{append-nil}
 use Rattle.std.proofs.lemmas.Option.{slice_get-map}
 use Rattle.index_tree.specs.Ordered.{IsAscending, AreApart, IsClosedDown, is_below, is_through, with_item, in_order}

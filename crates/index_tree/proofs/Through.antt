@@ -2,7 +2,7 @@
 --     map_kept, map_put_between, map_removed      a filter, an insert and a removal
 --     put_between_then      an insert beside which the new item comes to stand for something
 --     parted_through, first_place_through, last_place_through      what a cut by what they stand for says of the items
-use Rattle.std.proofs.Common.{◌≡◌, ℕ, zero, suc, Bool, true, false, not, cond, List, [], ◌∷◌, ◌++◌, map, filter, remove, Option, Some, None, option_map, refl, ap, ◌∙◌}
+use Rattle.std.proofs.Common.{◌≡◌, ℕ, zero, suc, Bool, true, false, not, cond, List, [], ◌∷◌, map, filter, remove, Option, Some, option_map, refl, ap, ◌∙◌}
 use Rattle.std.specs.List.{AllByRecursion}
 use Rattle.std.proofs.lemmas.List.{map-append}
 use Rattle.index_tree.specs.Parts.{IsParted, put_between, first_place, last_place, later_or_first}

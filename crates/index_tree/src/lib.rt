@@ -19,8 +19,10 @@ mod place;
 #[cfg(test)]
 mod tests;
 mod tree;
+mod walk;
 
 pub use cut::Cut;
 pub use laws::{ascending_items, worked_examples};
 pub use place::Place;
 pub use tree::Tree;
+pub use walk::Walk;

@@ -125,6 +125,16 @@ impl<K: Ord + Copy> Sorted<K> {
         Some(self.tree.item_at(place))
     }
 
+    fn first_up(&self, cut: &Beside<K>) -> Option<K> {
+        let mut walk = self.tree.up(cut);
+        walk.next()
+    }
+
+    fn first_down(&self, cut: &Beside<K>) -> Option<K> {
+        let mut walk = self.tree.down(cut);
+        walk.next()
+    }
+
     // The items from the first on, as far as `steps` go.
     fn walk_up(&self, alloc: Global, steps: u32) -> Result<Vec<K>, AllocError> {
         let mut items = Vec::new(alloc);
@@ -176,6 +186,18 @@ fn a_cut_finds_the_first_behind_it_and_the_last_before_it(rt: HostRuntime) -> Re
         assert_eq!(rt; numbers.first(&behind(key)), first_after, "behind {key}");
         assert_eq!(rt; numbers.last(&behind(key)), last, "up to {key}");
         assert_eq!(rt; numbers.last(&front(key)), last_before, "before {key}");
+        assert_eq!(rt; numbers.first_up(&front(key)), first, "up from {key}");
+        assert_eq!(rt;
+            numbers.first_up(&behind(key)),
+            first_after,
+            "up behind {key}"
+        );
+        assert_eq!(rt; numbers.first_down(&behind(key)), last, "down from {key}");
+        assert_eq!(rt;
+            numbers.first_down(&front(key)),
+            last_before,
+            "down before {key}"
+        );
     }
     Ok(())
 }
@@ -184,22 +206,23 @@ fn a_cut_finds_the_first_behind_it_and_the_last_before_it(rt: HostRuntime) -> Re
 fn a_walk_meets_the_items_as_a_sort_puts_them(rt: HostRuntime) -> Result<(), Fail> {
     let mut numbers = Sorted::new(rt.alloc());
     let mut backwards = Sorted::new(rt.alloc());
-    let mut plain = Vec::new(rt.alloc());
-    let mut key = 1u64;
+    let mut rising = Vec::new(rt.alloc());
+    let mut falling = Vec::new(rt.alloc());
     for count in 0..40 {
         assert_eq!(rt; numbers.tree.len(), count);
-        key = key * 61 % 101;
+        let key = (count * 61 + 7) % 101;
         assert!(rt; numbers.add(key)?);
         assert!(rt; backwards.add(Reverse(key))?);
-        plain.push(key)?;
+        rising.push(key)?;
+        falling.push(Reverse(key))?;
     }
-    plain.sort()?;
-    assert_eq!(rt; numbers.walk_up(rt.alloc(), 99)?, plain);
-    let reversed = backwards.walk_up(rt.alloc(), 99)?;
-    assert_eq!(rt; reversed.first(), Some(&Reverse(plain[39])));
-    plain.reverse();
-    assert_eq!(rt; numbers.walk_down(rt.alloc(), 99)?, plain);
-    assert_eq!(rt; numbers.walk_down(rt.alloc(), 3)?.as_slice(), &plain[..3]);
+    rising.sort()?;
+    falling.sort()?;
+    assert_eq!(rt; numbers.walk_up(rt.alloc(), 99)?, rising);
+    assert_eq!(rt; backwards.walk_up(rt.alloc(), 99)?, falling);
+    rising.reverse();
+    assert_eq!(rt; numbers.walk_down(rt.alloc(), 99)?, rising);
+    assert_eq!(rt; numbers.walk_down(rt.alloc(), 3)?.last(), rising.get(2));
     Ok(())
 }
 

@@ -1,10 +1,10 @@
 //! A tree of items, as a vector of them in the order in which the inserts placed them. A look-up halves the vector; an
 //! insert and a removal move the items behind.
-ghost use Rattle.std.specs.Prelude.{◌≡◌, ℕ, ◌+◌, ◌<◌, ◌≤◌, [], length, OnOk, OnErr, IsOk, IfSome, remove, not, count_by, nat_lt, if◌then◌else◌, slice_get};
+ghost use Rattle.std.specs.Prelude.{◌≡◌, ℕ, ◌+◌, ◌<◌, ◌≤◌, [], length, OnOk, OnErr, IsOk, IfSome, remove, not, count_by, nat_lt, if◌then◌else◌, slice_get, filter, reverse};
 ghost use Rattle.index_tree.specs.Contents.{IsAt, IsInside, Finds, one_after, one_before};
 ghost use Rattle.index_tree.specs.Parts.{IsParted, put_between, first_place, last_place};
 
-use crate::{Cut, Place};
+use crate::{Cut, Place, Walk};
 use std::alloc::{AllocError, Global};
 use std::marker::Model;
 
@@ -138,6 +138,22 @@ impl<T: Copy> Tree<T> {
         } else {
             Some(Place::of(place.number() - 1))
         }
+    }
+
+    /// The items behind the cut, the first one next.
+    pub fn up<C: Cut<T>>(&self, cut: &C) -> Walk<'_, T>
+        requires parted { IsParted (C.before cut.now) self.now.items }
+        ensures { result ≡ filter (λ item. not (C.before cut.now item)) self.now.items }
+    {
+        Walk::up(&self.items.as_slice()[self.count_before(cut)..])
+    }
+
+    /// The items before the cut, the last one next.
+    pub fn down<C: Cut<T>>(&self, cut: &C) -> Walk<'_, T>
+        requires parted { IsParted (C.before cut.now) self.now.items }
+        ensures { result ≡ reverse (filter (C.before cut.now) self.now.items) }
+    {
+        Walk::down(&self.items.as_slice()[..self.count_before(cut)])
     }
 
     /// The item at a place.

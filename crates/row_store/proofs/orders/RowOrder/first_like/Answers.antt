@@ -1,0 +1,69 @@
+use Rattle.std.proofs.Common.{ℕ, false, not, List, find, Some, None, sym, ap, subst, ◌∙◌}
+use Rattle.index_tree.specs.Parts.{IsParted}
+use Rattle.row_store.specs.Entries.{row_at, cells, walk}
+use Rattle.row_store.specs.Inside.{is_ahead, slots_in}
+use Rattle.row_store.specs.Walks.{IsKeyed, first_like, slot_in}
+use Rattle.row_store.proofs.LikeRows.{own_parted, like_slot, if_same}
+use Rattle.std.proofs.lemmas.Bool.{cond-true, cond-false}
+use Rattle.row_store.specs.Inside.{is_same}
+use Rattle.row_store.proofs.orders.RowOrder.first_like.Goals as goal
+
+pub first_behind-requires : goal.first_behind-requires
+first_behind-requires c =
+    let own = c.args.self.now.own.items in
+    let rows = c.args.rows.now in
+    let row = c.args.row.now in
+    let order = c.requires.order in
+    let key = c.requires.columns.0 in
+    subst (λ (cs : List ℕ). IsParted (is_ahead rows cs (cells cs row) false) c.args.self.now.tree.items) (sym c.as_slice-columns.ensures.value)
+    (subst (IsParted (is_ahead rows own (cells own row) false)) (sym (order.walked ∙ ap (λ (cs : List ℕ). slots_in (walk cs rows)) c.requires.columns.1))
+    (own_parted own key row rows (subst (λ (cs : List ℕ). IsKeyed cs rows) c.requires.columns.1 order.apart)))
+
+pub returns-in_err-slot : goal.returns-in_err-slot
+returns-in_err-slot c =
+    let own = c.args.self.now.own.items in
+    let key = c.requires.columns.0 in
+    let rows = c.args.rows.now in
+    let row = c.args.row.now in
+    let order = c.requires.order in
+    let columns = c.requires.columns.1 in
+    let found = c.first_behind.ensures
+    ∙ ap (λ (cs : List ℕ). find (λ (s : ℕ). not (is_ahead rows cs (cells cs row) false s)) c.args.self.now.tree.items) c.as_slice-columns.ensures.value
+    ∙ ap (find (λ (s : ℕ). not (is_ahead rows own (cells own row) false s))) (order.walked ∙ ap (λ (cs : List ℕ). slots_in (walk cs rows)) columns) in
+    let told = ap (λ (cs : List ℕ). slot_in (first_like own row (walk cs rows))) columns
+    ∙ like_slot own key row rows c.first_behind.result (subst (λ (cs : List ℕ). IsKeyed cs rows) columns order.apart) found in
+    c.from_residual.ensures ∙ sym (told ∙ ap (if_same own key row rows) c.in_err-slot.was)
+
+pub returns-then-is_same : goal.returns-then-is_same
+returns-then-is_same c =
+    let own = c.args.self.now.own.items in
+    let key = c.requires.columns.0 in
+    let rows = c.args.rows.now in
+    let row = c.args.row.now in
+    let order = c.requires.order in
+    let columns = c.requires.columns.1 in
+    let found = c.first_behind.ensures
+    ∙ ap (λ (cs : List ℕ). find (λ (s : ℕ). not (is_ahead rows cs (cells cs row) false s)) c.args.self.now.tree.items) c.as_slice-columns.ensures.value
+    ∙ ap (find (λ (s : ℕ). not (is_ahead rows own (cells own row) false s))) (order.walked ∙ ap (λ (cs : List ℕ). slots_in (walk cs rows)) columns) in
+    let told = ap (λ (cs : List ℕ). slot_in (first_like own row (walk cs rows))) columns
+    ∙ like_slot own key row rows c.first_behind.result (subst (λ (cs : List ℕ). IsKeyed cs rows) columns order.apart) found in
+    let slot = c.in_ok-slot.slot in
+    let same = ap (λ (cs : List ℕ). is_same cs row (row_at rows slot)) (sym c.as_slice-columns.ensures.value) ∙ sym c.is_same.ensures ∙ c.if-is_same.true in
+    sym (told ∙ ap (if_same own key row rows) c.in_ok-slot.was ∙ cond-true (is_same own row (row_at rows slot)) (Some slot) None same)
+
+pub returns-else-is_same : goal.returns-else-is_same
+returns-else-is_same c =
+    let own = c.args.self.now.own.items in
+    let key = c.requires.columns.0 in
+    let rows = c.args.rows.now in
+    let row = c.args.row.now in
+    let order = c.requires.order in
+    let columns = c.requires.columns.1 in
+    let found = c.first_behind.ensures
+    ∙ ap (λ (cs : List ℕ). find (λ (s : ℕ). not (is_ahead rows cs (cells cs row) false s)) c.args.self.now.tree.items) c.as_slice-columns.ensures.value
+    ∙ ap (find (λ (s : ℕ). not (is_ahead rows own (cells own row) false s))) (order.walked ∙ ap (λ (cs : List ℕ). slots_in (walk cs rows)) columns) in
+    let told = ap (λ (cs : List ℕ). slot_in (first_like own row (walk cs rows))) columns
+    ∙ like_slot own key row rows c.first_behind.result (subst (λ (cs : List ℕ). IsKeyed cs rows) columns order.apart) found in
+    let slot = c.in_ok-slot.slot in
+    let same = ap (λ (cs : List ℕ). is_same cs row (row_at rows slot)) (sym c.as_slice-columns.ensures.value) ∙ sym c.is_same.ensures ∙ c.if-is_same.false in
+    sym (told ∙ ap (if_same own key row rows) c.in_ok-slot.was ∙ cond-false (is_same own row (row_at rows slot)) (Some slot) None same)

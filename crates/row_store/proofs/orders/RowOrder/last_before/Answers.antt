@@ -1,0 +1,6 @@
+use Rattle.std.proofs.Common.{sym, ◌∙◌}
+use Rattle.index_tree.proofs.Found.{last_found_at}
+use Rattle.row_store.proofs.orders.RowOrder.last_before.Goals as goal
+
+pub returns : goal.returns
+returns g c = c.slot_at.ensures _ c.last_before.ensures.last ∙ sym (last_found_at _ c.args.self.now.tree.items)

@@ -1,0 +1,5 @@
+pub mod Entries
+pub mod Walks
+pub mod Walked
+pub mod Contents
+pub mod Inside

@@ -1,0 +1,40 @@
+//! The rows of an index, one after another.
+ghost use Rattle.std.specs.Prelude.{◌≡◌, [], ◌∷◌, MatchOption};
+
+use crate::cuts::row_in;
+use row_types::Row;
+use std::marker::Model;
+
+/// The rows that are left, each beside its slot, and the next one first. A step costs no search.
+#[derive(Drop)]
+pub struct Walk<'a> {
+    pub(crate) rows: &'a [Option<Row>],
+    pub(crate) slots: index_tree::Walk<'a, u32>,
+}
+
+impl<'a> Model for Walk<'a> {
+    ghost use Rattle.std.specs.Prelude.{List};
+    ghost use Rattle.std.specs.List.{AllByRecursion};
+    ghost use Rattle.row_store.specs.Entries.{Entry, IsLive};
+    ghost use Rattle.row_store.specs.Walked.{entries_under};
+
+    ghost Value = { List Entry };
+
+    ghost view = { λ walk. entries_under walk.rows.now walk.slots };
+
+    ghost invariant = { λ walk. AllByRecursion (IsLive walk.rows.now) walk.slots };
+}
+
+impl<'a> Walk<'a> {
+    /// The next slot and its row, or None at the end. Takes no memory.
+    pub fn next(&mut self) -> Option<(u32, &'a Row)>
+        ensures { MatchOption result (self.old ≡ [] × self.new ≡ [])
+            (λ found. self.old ≡ (found.1.now, found.0) ∷ self.new) }
+    {
+        let slot = self.slots.next()?;
+        match row_in(self.rows, slot) {
+            None => unreachable!(),
+            Some(row) => Some((slot, row)),
+        }
+    }
+}

@@ -1,0 +1,48 @@
+-- A store, seen as a table.
+--     put_seen, replaced_seen, taken_seen, roomy_seen, same_seen      a store that has changed
+--     walk_seen      the order of an index
+use Rattle.std.proofs.Common.{◌≡◌, ℕ, ◌+◌, ◌≤◌, List, ◌++◌, length, set, replicate, Some, None, refl, ap, sym, ◌∙◌, arith, length-set}
+use Rattle.row_types.specs.declared.values.Value.{Value}
+use Rattle.row_store.specs.Entries as store
+use Rattle.row_store.specs.Entries.{Slots, Entry, kept, vacancies, row_at, walk}
+use Rattle.row_store.specs.Walks.{IsNew, IsKeyed}
+use Rattle.row_store.specs.Contents.{Contents, order_of, walk_of, with_slot}
+use Rattle.row_store.proofs.KeptRows.{count_kept}
+use Rattle.row_store.proofs.WalkChanges.{walk_with_vacant}
+use Rattle.table_rows.specs.Rows.{Rows}
+use Rattle.table_rows.specs.Slots.{without}
+use Rattle.table_rows.specs.Table.{table_in, with_row_in, without_in, with_room, walk_by}
+use Rattle.table_rows.proofs.Kept.{kept_count, room_more, entries_put, entries_without, entries_replaced, walk_there}
+
+-- a table's parts
+table_is : (s : Contents) (slots : Slots) (rows : Rows) → walk s.key slots ≡ rows.entries → length slots ≡ rows.room → table_in (record { key = s.key; orders = s.orders; slots = slots }) ≡ record { key = s.key; orders = s.orders; rows = rows }
+table_is s slots rows entries room = λ i. record { key = s.key; orders = s.orders; rows = record { entries = entries i; room = room i } }
+
+pub walk_seen : (s : Contents) (index : ℕ) → IsKeyed s.key s.slots → walk_of s index ≡ walk_by (table_in s) index
+walk_seen s index keyed = walk_there s.key s.slots keyed (order_of s index)
+
+module _ (s after : Contents) (keyed : IsKeyed s.key s.slots) where
+  pub put_seen : (slot : ℕ) (row : List Value) → store.IsVacant s.slots slot → IsNew s.key row (walk s.key s.slots) → after ≡ with_slot s slot (Some row) → table_in after ≡ with_row_in (table_in s) slot row
+  put_seen slot row vacant new is = ap table_in is ∙ table_is s (set s.slots slot (Some row)) _ (entries_put s.key s.slots keyed slot row vacant new) (length-set s.slots slot (Some row))
+
+  pub replaced_seen : (slot : ℕ) (old row : List Value) → row_at s.slots slot ≡ Some old → IsNew s.key row (without slot (walk s.key s.slots)) → after ≡ with_slot s slot (Some row) → table_in after ≡ with_row_in (table_in s) slot row
+  replaced_seen slot old row live new is = ap table_in is ∙ table_is s (set s.slots slot (Some row)) _ (entries_replaced s.key s.slots keyed slot old row live new) (length-set s.slots slot (Some row))
+
+  pub taken_seen : (slot : ℕ) (old : List Value) → row_at s.slots slot ≡ Some old → after ≡ with_slot s slot None → table_in after ≡ without_in (table_in s) slot
+  taken_seen slot old live is = ap table_in is ∙ table_is s (set s.slots slot None) _ (entries_without s.key s.slots keyed slot old live) (length-set s.slots slot None)
+
+-- more slots, as many as are wanted
+pub roomy_seen : (s after : Contents) (n : ℕ) → after.key ≡ s.key → after.orders ≡ s.orders → after.slots ≡ s.slots ++ replicate n None → table_in after ≡ with_room (table_in s) (length after.slots)
+roomy_seen s after n key orders slots =
+    (λ i. table_in (record { key = key i; orders = orders i; slots = slots i }))
+    ∙ table_is s (s.slots ++ replicate n None) (record { entries = walk s.key s.slots; room = length (s.slots ++ replicate n None) }) (walk_with_vacant s.key s.slots n) refl
+    ∙ ap (λ (ss : Slots). with_room (table_in s) (length ss)) (sym slots)
+
+pub same_seen : (s after : Contents) → after ≡ s → table_in after ≡ with_room (table_in s) (length after.slots)
+same_seen s after same = ap table_in same ∙ ap (λ (c : Contents). with_room (table_in s) (length c.slots)) (sym same)
+
+pub wider : (s after : Contents) (n : ℕ) → after.slots ≡ s.slots ++ replicate n None → length s.slots ≤ length after.slots
+wider s after n slots = omega (arith, ap length slots, room_more s.key s.slots n)
+
+pub room_seen : (s : Contents) (n : ℕ) → n ≤ vacancies s.slots → length (walk s.key s.slots) + n ≤ length s.slots
+room_seen s n vacant = omega (arith, vacant, kept_count s.key s.slots, count_kept s.slots)

@@ -1,0 +1,12 @@
+pub mod Rows
+pub mod Indexes
+pub mod Slots
+pub mod Sizes
+pub mod Checks
+pub mod Walks
+pub mod Widths
+pub mod Table
+pub mod Inside
+pub mod Valid
+pub mod Undoing
+pub mod Examples

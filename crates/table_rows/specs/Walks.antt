@@ -1,0 +1,44 @@
+-- A table's rows in the order of an index.
+use Rattle.std.specs.Prelude.{ℕ, Bool, true, false, List, Option}
+use Rattle.std.specs.Option.{option_map}
+use Rattle.index_tree.specs.Ordered.{in_order}
+use Rattle.row_types.specs.declared.values.Value.{Value}
+use Rattle.row_types.specs.declared.indexes.IndexDef.{IndexDef}
+use Rattle.row_store.specs.declared.edge.Edge.{Edge}
+use Rattle.row_store.specs.Entries.{Entry, entry_cmp}
+use Rattle.row_store.specs.Walks.{first_from, last_to, behind, in_front}
+use Rattle.row_store.specs.Walked.{upward, downward}
+use Rattle.table_rows.specs.declared.bound.Bound.{Bound}
+use Rattle.table_rows.specs.declared.bound.Bound.TheVariants.{From, Behind, To, Before}
+use Rattle.table_rows.specs.declared.slot_ref.SlotRef.{SlotRef}
+use Rattle.table_rows.specs.Rows.{State, indexes_of, entries_of}
+use Rattle.table_rows.specs.Indexes.{index_columns}
+
+-- The entries in the order of an index.
+abbrev pub walk : List IndexDef → ℕ → List Entry → List Entry
+walk indexes index entries = in_order (entry_cmp (index_columns indexes index)) entries
+
+-- All rows of a table in the order of an index.
+abbrev pub walk_of : State → ℕ → ℕ → List Entry
+walk_of state table index = walk (indexes_of state table) index (entries_of state table)
+
+-- The slot of an entry, if there is one.
+abbrev pub slot_of : Option Entry → Option SlotRef
+slot_of entry = option_map (λ (found : Entry). record { 0 = found.1 }) entry
+
+-- Where a walk begins: at the first entry from an edge on, or, downward, at the last one up to it.
+abbrev pub begun : Bool → List ℕ → Edge (List Value) → List Entry → Option Entry
+begun false columns edge entries = first_from columns edge entries
+begun true columns edge entries = last_to columns edge entries
+
+-- The entries of a walk that begins there.
+abbrev pub walked : Bound → List ℕ → List Value → List Entry → List Entry
+walked From columns key entries = upward columns key false entries
+walked Behind columns key entries = upward columns key true entries
+walked To columns key entries = downward columns key true entries
+walked Before columns key entries = downward columns key false entries
+
+-- How a walk goes on from a slot: to the entry behind it, or, downward, in front of it.
+abbrev pub gone_on : Bool → ℕ → List Entry → Option Entry
+gone_on false slot entries = behind slot entries
+gone_on true slot entries = in_front slot entries

@@ -1,0 +1,26 @@
+-- Tables without rows, and slots for more rows.
+use Rattle.std.specs.Prelude.{◌≡◌, ℕ, ◌≤◌, map}
+use Rattle.std.specs.List.{AllZip}
+use Rattle.row_types.specs.declared.tables.TableDef.{TableDef}
+use Rattle.row_types.specs.declared.tables.Schema.{Schema}
+use Rattle.table_rows.specs.Rows.{Rows, State, no_rows, with_rows, entries_of, room_of}
+
+-- A state in which no table has a row or a slot.
+abbrev pub empty_state : Schema → ℕ → State
+empty_state schema bytes_max =
+    record { schema = schema; bytes_max = bytes_max; tables = map (λ (def : TableDef). no_rows) schema.tables }
+
+-- The same state but for more slots in this table.
+pub record IsWidened (table : ℕ) (before after : State) : Type 0 where
+  pub rows : after ≡ with_rows before table (record { entries = entries_of before table; room = room_of after table })
+  pub room : room_of before table ≤ room_of after table
+
+-- The same rows in as many slots or more.
+abbrev pub AreRoomier : Rows → Rows → Type 0
+AreRoomier before after = (after.entries ≡ before.entries) × (before.room ≤ after.room)
+
+-- The same state in as many slots or more.
+pub record IsRoomier (before after : State) : Type 0 where
+  pub schema : after.schema ≡ before.schema
+  pub bytes_max : after.bytes_max ≡ before.bytes_max
+  pub tables : AllZip AreRoomier before.tables after.tables

@@ -1,0 +1,43 @@
+//! The words of the contracts, worked at a table with two rows.
+ghost use Rattle.std.specs.Prelude.{◌≡◌, ◌+◌, [], ◌∷◌, codes, Some, None, pos, true, false};
+ghost use Rattle.row_types.specs.declared.values.Value.TheVariants as values;
+ghost use Rattle.table_rows.specs.declared.verdict.Verdict.TheVariants.{Fine, Dup, Null, Full};
+ghost use Rattle.table_rows.specs.declared.undo.Undo.TheVariants.{Put, Replaced, Deleted};
+ghost use Rattle.table_rows.specs.Rows.{entries_of};
+ghost use Rattle.table_rows.specs.Slots.{row_at, with_row_at, without_at};
+ghost use Rattle.table_rows.specs.Sizes.{total};
+ghost use Rattle.table_rows.specs.Checks.{verdict_of};
+ghost use Rattle.table_rows.specs.Walks.{walk_of, slot_of, begun, gone_on};
+ghost use Rattle.table_rows.specs.Undoing.{undone};
+ghost use Rattle.table_rows.specs.Examples.{some_row, two_rows, third_row, slot_named};
+
+/// What is said of a third row, where 255 bytes are just enough for it.
+pub fn worked_verdicts()
+    ensures fine { verdict_of (two_rows 255) 0 third_row None ≡ Fine }
+    ensures a_byte_too_many { verdict_of (two_rows 254) 0 third_row None ≡ Full }
+    ensures null_before_all { verdict_of (two_rows 9) 0
+        (values.Int (pos 1) ∷ values.Text (codes "ab") ∷ values.Null ∷ []) None ≡ Null 2 }
+    ensures the_same_key { verdict_of (two_rows 9) 0
+        (some_row 1 (values.Text (codes "ab")) 9) None ≡ Dup 0 }
+    ensures the_same_code { verdict_of (two_rows 9) 0
+        (some_row 1 (values.Text (codes "ab")) 7) None ≡ Dup 1 }
+    ensures null_twice { verdict_of (two_rows 255) 0 (some_row 3 values.Null 9) None ≡ Fine }
+    // In its own place a row meets itself in no index, and one that does not grow is never too large.
+    ensures instead { verdict_of (two_rows 9) 0
+        (some_row 2 (values.Text (codes "ab")) 7) (Some (slot_named 0)) ≡ Fine }
+{}
+
+/// What changes make of the two rows, and how they stand in each index.
+pub fn worked_changes()
+    ensures bytes { total (two_rows 255) ≡ 81 + 86 }
+    ensures by_n { walk_of (two_rows 255) 0 2
+        ≡ (some_row 2 (values.Text (codes "ab")) 5, 0) ∷ (some_row 1 values.Null 9, 1) ∷ [] }
+    ensures put { entries_of (with_row_at (two_rows 255) 0 2 (some_row 0 values.Null 7)) 0
+        ≡ (some_row 0 values.Null 7, 2) ∷ (some_row 1 values.Null 9, 1)
+        ∷ (some_row 2 (values.Text (codes "ab")) 5, 0) ∷ [] }
+    ensures replaced { entries_of (with_row_at (two_rows 255) 0 1 third_row) 0
+        ≡ (some_row 2 (values.Text (codes "ab")) 5, 0) ∷ (third_row, 1) ∷ [] }
+    ensures deleted { undone (Deleted 0 (slot_named 1) (some_row 1 values.Null 9))
+        (without_at (two_rows 255) 0 1) ≡ two_rows 255 }
+    ensures last { slot_of (gone_on false 1 (walk_of (two_rows 255) 0 2)) ≡ None }
+{}

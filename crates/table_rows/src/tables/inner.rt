@@ -1,0 +1,84 @@
+//! Changes of the rows, without a note of them.
+ghost use Rattle.std.specs.Prelude.{◌≡◌, ◌+◌, ◌<◌, ◌≤◌, length, true, None, OnOk};
+ghost use Rattle.table_rows.specs.Rows.{def_of, entries_of, rows_of, room_of};
+ghost use Rattle.table_rows.specs.Slots.{IsVacant, is_live_in, row_at, with_row_at, without_at};
+ghost use Rattle.table_rows.specs.Sizes.{total_with, most_bytes};
+ghost use Rattle.table_rows.specs.Checks.{IsPlaceable};
+ghost use Rattle.table_rows.specs.Valid.{IsValidState};
+ghost use Rattle.table_rows.specs.Widths.{IsWidened};
+
+use super::Tables;
+use row_types::{Row, row_size};
+use std::alloc::AllocError;
+
+impl Tables {
+    /// Sees to it that `rows` more rows find a slot.
+    pub(super) fn widen(&mut self, table: u32, rows: u32) -> Result<(), AllocError>
+        requires { table < length self.old.tables }
+        ensures widened { IsWidened table self.old self.new }
+        ensures room { OnOk result
+            (length (entries_of self.new table) + rows ≤ room_of self.new table) }
+    {
+        let store = &mut self.stores[table as usize];
+        store.reserve(rows)
+    }
+
+    /// Puts a new row into a slot without one, and answers the slot.
+    pub(super) fn put_new(&mut self, table: u32, row: Row) -> u32
+        requires table { table < length self.old.tables }
+        requires row { IsPlaceable (def_of self.old table) row (entries_of self.old table) }
+        requires bytes { total_with self.old table row None ≤ most_bytes }
+        requires room { length (entries_of self.old table) < room_of self.old table }
+        ensures valid { IsValidState self.old }
+        ensures vacant { IsVacant result (rows_of self.old table) }
+        ensures put { self.new ≡ with_row_at self.old table result row }
+    {
+        let size = row_size(&row);
+        let store = &mut self.stores[table as usize];
+        let slot = store.put(row);
+        self.total += size;
+        slot
+    }
+
+    /// Puts a row back into its slot, which has none.
+    pub(super) fn put_back(&mut self, table: u32, slot: u32, row: Row)
+        requires table { table < length self.old.tables }
+        requires vacant { IsVacant slot (rows_of self.old table) }
+        requires valid { IsValidState (with_row_at self.old table slot row) }
+        ensures { self.new ≡ with_row_at self.old table slot row }
+    {
+        let size = row_size(&row);
+        let store = &mut self.stores[table as usize];
+        store.put_at(slot, row);
+        self.total += size;
+    }
+
+    /// Puts another row into a slot, and hands the old one back.
+    pub(super) fn exchange(&mut self, table: u32, slot: u32, row: Row) -> Row
+        requires table { table < length self.old.tables }
+        requires live { is_live_in self.old table slot ≡ true }
+        requires valid { IsValidState (with_row_at self.old table slot row) }
+        ensures handed { result ≡ row_at self.old table slot }
+        ensures exchanged { self.new ≡ with_row_at self.old table slot row }
+    {
+        let size = row_size(&row);
+        let store = &mut self.stores[table as usize];
+        let old = store.replace(slot, row);
+        self.total = self.total - row_size(&old) + size;
+        old
+    }
+
+    /// Takes a row out of its slot, and hands it back.
+    pub(super) fn take_out(&mut self, table: u32, slot: u32) -> Row
+        requires table { table < length self.old.tables }
+        requires live { is_live_in self.old table slot ≡ true }
+        ensures valid { IsValidState self.old }
+        ensures handed { result ≡ row_at self.old table slot }
+        ensures gone { self.new ≡ without_at self.old table slot }
+    {
+        let store = &mut self.stores[table as usize];
+        let old = store.take(slot);
+        self.total -= row_size(&old);
+        old
+    }
+}

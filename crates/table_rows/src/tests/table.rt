@@ -1,0 +1,128 @@
+//! The table of the examples, and its rows.
+ghost use Rattle.std.specs.Prelude.{◌≡◌, ◌<◌, ◌≤◌, length, IfOk};
+ghost use Rattle.row_types.specs.declared.columns.Kind.TheVariants.{Bytes};
+ghost use Rattle.row_types.specs.declared.columns.Fit.TheVariants as fits_as;
+ghost use Rattle.row_types.specs.declared.values.Value.TheVariants as values;
+ghost use Rattle.row_types.specs.Fit.{kind_fit};
+ghost use Rattle.table_rows.specs.Sizes.{most_bytes};
+ghost use Rattle.table_rows.specs.Checks.{IsRow};
+ghost use Rattle.table_rows.specs.Widths.{empty_state};
+ghost use Rattle.table_rows.specs.Examples.{some_columns, some_indexes, some_schema, IsPlay};
+
+use crate::{Tables, UndoList};
+use row_types::{ByteText, Column, IndexDef, IndexKind, Kind, List, Row, Schema, TableDef, Value};
+use std::alloc::{AllocError, Global};
+
+pub(super) fn text(alloc: Global, bytes: &[u8]) -> Result<Value, AllocError>
+    ensures { IfOk result (λ value. value ≡ values.Text bytes.now) }
+{
+    Ok(Value::Text(ByteText::of(alloc, bytes)?))
+}
+
+pub(super) fn column(
+    alloc: Global,
+    name: &[u8],
+    kind: Kind,
+    null: bool,
+) -> Result<Column, AllocError>
+    ensures { IfOk result (λ column.
+        column ≡ record { name = name.now; kind = kind; null = null; preset = values.Null }) }
+{
+    Ok(Column {
+        name: ByteText::of(alloc, name)?,
+        kind,
+        null,
+        preset: Value::Null,
+    })
+}
+
+pub(super) fn index(
+    alloc: Global,
+    name: &[u8],
+    kind: IndexKind,
+    parts: &[u32],
+) -> Result<IndexDef, AllocError>
+    ensures { IfOk result (λ index.
+        index ≡ record { name = name.now; kind = kind; parts = parts.now }) }
+{
+    Ok(IndexDef {
+        name: ByteText::of(alloc, name)?,
+        kind,
+        parts: List::of_vec(Vec::from_slice(alloc, parts)?),
+    })
+}
+
+pub(super) fn columns(alloc: Global) -> Result<List<Column>, AllocError>
+    ensures { IfOk result (λ columns. columns ≡ some_columns) }
+{
+    let mut columns = List::new(alloc);
+    columns.push(column(alloc, b"id", Kind::Int, false)?)?;
+    columns.push(column(alloc, b"code", Kind::Bytes(4), true)?)?;
+    columns.push(column(alloc, b"n", Kind::Int, false)?)?;
+    Ok(columns)
+}
+
+pub(super) fn indexes(alloc: Global) -> Result<List<IndexDef>, AllocError>
+    ensures { IfOk result (λ indexes. indexes ≡ some_indexes) }
+{
+    let mut indexes = List::new(alloc);
+    indexes.push(index(alloc, b"PRIMARY", IndexKind::Primary, &[0, 2])?)?;
+    indexes.push(index(alloc, b"by_code", IndexKind::Unique, &[1])?)?;
+    indexes.push(index(alloc, b"by_n", IndexKind::Plain, &[2])?)?;
+    Ok(indexes)
+}
+
+pub(super) fn schema(alloc: Global) -> Result<Schema, AllocError>
+    ensures { IfOk result (λ schema. schema ≡ some_schema) }
+{
+    let mut tables = List::new(alloc);
+    tables.push(TableDef {
+        db: ByteText::of(alloc, b"test")?,
+        name: ByteText::of(alloc, b"t")?,
+        columns: columns(alloc)?,
+        indexes: indexes(alloc)?,
+    })?;
+    Ok(Schema { tables })
+}
+
+pub(super) fn new_tables(alloc: Global, bytes_max: u64) -> Result<Tables, AllocError>
+    requires { bytes_max ≤ most_bytes }
+    ensures { IfOk result (λ tables. tables ≡ empty_state some_schema bytes_max) }
+{
+    let schema = schema(alloc)?;
+    Tables::new(alloc, &schema, bytes_max)
+}
+
+// A code: none, or one of four.
+pub(super) fn code(alloc: Global, which: u64) -> Result<Value, AllocError>
+    ensures { IfOk result (λ code. kind_fit (Bytes 4) code ≡ fits_as.Fine) }
+{
+    match which {
+        0 => text(alloc, b"a"),
+        1 => text(alloc, b"ab"),
+        2 => text(alloc, b"dcba"),
+        3 => text(alloc, b"abcd"),
+        _ => Ok(Value::Null),
+    }
+}
+
+pub(super) fn row(alloc: Global, id: i64, code: Value, n: i64) -> Result<Row, AllocError>
+    requires { kind_fit (Bytes 4) code ≡ fits_as.Fine }
+    ensures { IfOk result (λ row. IsRow some_columns row) }
+{
+    let mut row = List::new(alloc);
+    row.push(Value::Int(id))?;
+    row.push(code)?;
+    row.push(Value::Int(n))?;
+    Ok(row)
+}
+
+// An empty table, and no change.
+pub(super) fn begin(alloc: Global, bytes_max: u64) -> Result<(Tables, UndoList), AllocError>
+    requires { bytes_max ≤ most_bytes }
+    ensures { IfOk result (λ both. IsPlay 0 both.1 both.0) }
+{
+    let undo = UndoList::list_new(alloc);
+    let tables = new_tables(alloc, bytes_max)?;
+    Ok((tables, undo))
+}
