@@ -36,10 +36,10 @@ fn feed(rt: &impl Abort, table: &mut ConnTable, conn: ConnId, piece: &[u8]) {
     table.feed(conn, piece);
 }
 
-/// Sends the first bytes that wait, and answers how many.
-fn send(rt: &impl Abort, table: &mut ConnTable, conn: ConnId) -> usize {
+/// Sends the first bytes that wait, at most so many, and answers how many.
+fn send(rt: &impl Abort, table: &mut ConnTable, conn: ConnId, most: usize) -> usize {
     assert!(rt; table.has(conn));
-    let count = table.unsent(conn).len();
+    let count = table.unsent(conn).len().min(most);
     table.sent(conn, count);
     count
 }
@@ -140,7 +140,7 @@ fn the_lines_before_one_that_is_too_long_are_answered_and_then_it_closes(
         table.settle(&batch, outcome);
         table.finish(&[conn]);
         assert_eq!(rt; state(&rt, &table, conn), ConnState::Live);
-        assert_eq!(rt; send(&rt, &mut table, conn), 8);
+        assert_eq!(rt; send(&rt, &mut table, conn, usize::MAX), 8);
         table.finish(&[conn]);
         assert_eq!(rt; state(&rt, &table, conn), end);
     }
@@ -161,7 +161,7 @@ fn a_peer_that_ends_is_answered_first(rt: HostRuntime) -> Result<(), Fail> {
     table.settle(&batch, outcome);
     table.finish(&[conn]);
     assert_eq!(rt; state(&rt, &table, conn), ConnState::Live);
-    assert_eq!(rt; send(&rt, &mut table, conn), 8);
+    assert_eq!(rt; send(&rt, &mut table, conn, usize::MAX), 8);
     table.finish(&[conn]);
     assert_eq!(rt; state(&rt, &table, conn), ConnState::Closed(Reason::Ended));
     Ok(())
@@ -178,8 +178,8 @@ fn replies_wait_in_their_order(rt: HostRuntime) -> Result<(), Fail> {
         let outcome = done(alloc, &batch, text)?;
         table.settle(&batch, outcome);
     }
-    for count in [4, 8, 0] {
-        assert_eq!(rt; send(&rt, &mut table, conn), count);
+    for (most, count) in [(3, 3), (9, 1), (2, 2), (9, 6), (9, 0)] {
+        assert_eq!(rt; send(&rt, &mut table, conn, most), count);
     }
     Ok(())
 }
@@ -196,7 +196,7 @@ fn a_batch_that_was_not_done_closes_its_connections(rt: HostRuntime) -> Result<(
         table.settle(&batch, failed(reason));
         table.fail(conn);
         assert_eq!(rt; state(&rt, &table, conn), ConnState::Closed(reason));
-        assert_eq!(rt; send(&rt, &mut table, conn), 0);
+        assert_eq!(rt; send(&rt, &mut table, conn, usize::MAX), 0);
         assert_eq!(rt; state(&rt, &table, other), ConnState::Live);
     }
     Ok(())
@@ -262,16 +262,17 @@ fn a_connection_that_does_not_read_is_not_heard(rt: HostRuntime) -> Result<(), F
     for (len, lines, later) in [(MAX_UNSENT, 1, 0), (MAX_UNSENT + 1, 0, 1)] {
         let mut table = connections(alloc)?;
         let conn = added(&rt, alloc, &mut table, Port::Writing);
-        feed(&rt, &mut table, conn, b"x\n");
+        for _ in 0..257 {
+            feed(&rt, &mut table, conn, b"x\n");
+        }
         let batch = table.gather(alloc, &[conn])?;
-        feed(&rt, &mut table, conn, b"x\n");
         let mut text = Vec::new(alloc);
         text.resize(len, b'1')?;
         let outcome = done(alloc, &batch, &text)?;
         table.settle(&batch, outcome);
         let batch = table.gather(alloc, &[conn])?;
         assert_eq!(rt; batch.items.as_slice().len(), lines);
-        assert_eq!(rt; send(&rt, &mut table, conn), len);
+        assert_eq!(rt; send(&rt, &mut table, conn, usize::MAX), len);
         let batch = table.gather(alloc, &[conn])?;
         assert_eq!(rt; batch.items.as_slice().len(), later);
     }
