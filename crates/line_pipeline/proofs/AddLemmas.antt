@@ -49,6 +49,19 @@ consing-append : (n : ℕ) (slot : Option Slot) (xs ys : List (ConnId × Conn)) 
 consing-append n None xs ys = refl
 consing-append n (Some slot) xs ys = refl
 
+-- one more behind the first place
+joins_behind : (n : ℕ) (old new : List (Option Slot)) (id : ConnId) (conn : Conn) → get_or new 0 None ≡ get_or old 0 None → Joins (conns_from (n + 1) (drop 1 old)) (conns_from (n + 1) (drop 1 new)) id conn → Joins (conns_from n old) (conns_from n new) id conn
+joins_behind n old new id conn first later =
+    let was : conns_from n old ≡ consing n (get_or old 0 None) (later.before ++ later.after) = by_first n old ∙ ap (consing n (get_or old 0 None)) later.was in
+    let same : conns_from n new ≡ consing n (get_or old 0 None) (conns_from (n + 1) (drop 1 new)) = by_first n new ∙ ap (λ (s : Option Slot). consing n s (conns_from (n + 1) (drop 1 new))) first in
+    let is : conns_from n new ≡ consing n (get_or old 0 None) (later.before ++ (id, conn) ∷ later.after) = same ∙ ap (consing n (get_or old 0 None)) later.is in
+    record {
+      before = consing n (get_or old 0 None) later.before;
+      after = later.after;
+      was = was ∙ consing-append n (get_or old 0 None) later.before later.after;
+      is = is ∙ consing-append n (get_or old 0 None) later.before ((id, conn) ∷ later.after);
+    }
+
 -- one connection more
 pub joins-from : (n k : ℕ) (old new : List (Option Slot)) (id : ConnId) (slot : Slot) → id.number ≡ n + k → id.generation ≡ slot.generation → get_or old k None ≡ None → get_or new k None ≡ Some slot → ((j : ℕ) → j ≢ k → get_or new j None ≡ get_or old j None) → Joins (conns_from n old) (conns_from n new) id slot.conn
 joins-from n zero old new id slot number generation free there others =
@@ -64,17 +77,8 @@ joins-from n zero old new id slot number generation free there others =
       is = first ∙ ap (λ (cs : List (ConnId × Conn)). (id, slot.conn) ∷ cs) rest;
     }
 joins-from n (suc k) old new id slot number generation free there others =
-    let later = joins-from (n + 1) k (drop 1 old) (drop 1 new) id slot (omega arith) generation (rest-at old k ∙ free) (rest-at new k ∙ there) (λ j other. rest-at new j ∙ others (suc j) (λ is. other (omega (arith, is))) ∙ sym (rest-at old j)) in
-    let first : get_or new 0 None ≡ get_or old 0 None = others 0 (λ is. omega (arith, is)) in
-    record {
-      before = consing n (get_or old 0 None) later.before;
-      after = later.after;
-      was = by_first n old ∙ ap (consing n (get_or old 0 None)) later.was ∙ consing-append n (get_or old 0 None) later.before later.after;
-      is =
-          by_first n new ∙ ap (λ (s : Option Slot). consing n s (conns_from (n + 1) (drop 1 new))) first
-          ∙ ap (consing n (get_or old 0 None)) later.is
-          ∙ consing-append n (get_or old 0 None) later.before ((id, slot.conn) ∷ later.after);
-    }
+    joins_behind n old new id slot.conn (others 0 (λ is. omega (arith, is)))
+    (joins-from (n + 1) k (drop 1 old) (drop 1 new) id slot (omega arith) generation (rest-at old k ∙ free) (rest-at new k ∙ there) (λ j other. rest-at new j ∙ others (suc j) (λ is. other (omega (arith, is))) ∙ sym (rest-at old j)))
 
 -- a connection goes
 without-before : (n : ℕ) (slots : List (Option Slot)) (id : ConnId) → id.number < n → without id (conns_from n slots) ≡ conns_from n slots
