@@ -15,7 +15,8 @@ fn take_whole(held: &mut LineBuf) -> Result<Option<Bytes>, AllocError>
     ensures none { IfOk result (λ taken. IfNone taken (whole_lines held.old ≡ [])) }
     ensures kept { IfOk result (λ taken. IfNone taken (held.new ≡ held.old)) }
 {
-    if held.is_too_long() {
+    let ends_here = held.is_too_long();
+    if ends_here {
         return Ok(None);
     }
     let Some(line) = held.take_line()? else {
