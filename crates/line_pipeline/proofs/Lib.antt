@@ -1,0 +1,9 @@
+pub mod Ids
+pub mod TableLemmas
+pub mod SlotLemmas
+pub mod AddLemmas
+pub mod OutputLemmas
+pub mod TakenLines
+pub mod GatherLemmas
+pub mod PlaceLemmas
+pub mod SettleLemmas

@@ -1,0 +1,8 @@
+use Rattle.std.proofs.Common.{◌≡◌, drop}
+use Rattle.line_pipeline.specs.Table.{all_changed}
+use Rattle.line_pipeline.specs.Conn.{finished}
+use Rattle.line_pipeline.proofs.tables.ConnTable.finish.Given as goal
+
+abbrev pub invariant-loop-id : goal.invariant-loop-id
+invariant-loop-id l = (l.self ≡ record l.fn.self { conns = l.self.conns })
+    × (all_changed (drop l.id-index l.ready) finished l.self.conns ≡ all_changed l.ready finished l.fn.self.conns)

@@ -1,0 +1,24 @@
+use Rattle.std.proofs.Common.{◌≡◌, ◌∙◌, List, true, sym, ap}
+use Rattle.hs_outside.specs.declared.connections.ConnId.{ConnId}
+use Rattle.line_pipeline.specs.declared.conns.Conn.{Conn}
+use Rattle.line_pipeline.specs.Slots.{conns_from}
+use Rattle.line_pipeline.specs.Table.{Table, is_held}
+use Rattle.line_pipeline.proofs.SlotLemmas.{slot_held, zero_more}
+use Rattle.line_pipeline.proofs.AddLemmas.{without-from, some_slot}
+use Rattle.line_pipeline.proofs.tables.ConnTable.remove.Goals as goal
+
+pub remove-requires : goal.remove-requires
+remove-requires c =
+    let slots = c.self.inside.slots.slots in
+    let held : is_held (conns_from 0 slots) c.args.conn ≡ true = ap (λ (t : Table). is_held t.conns c.args.conn) c.self.view_is ∙ c.requires in
+    some_slot slots c.args.conn (slot_held slots c.args.conn held)
+
+pub returns : goal.returns
+returns c =
+    let o = c.self.inside in
+    let slots = o.slots.slots in
+    let held : is_held (conns_from 0 slots) c.args.conn ≡ true = ap (λ (t : Table). is_held t.conns c.args.conn) c.self.view_is ∙ c.requires in
+    let found = slot_held slots c.args.conn held in
+    rw (← c.self.view_is)
+    (ap (λ (cs : List (ConnId × Conn)). record { schema = o.schema; secrets = o.secrets; added = o.added; conns = cs })
+    (ap (conns_from 0) c.remove.ensures.slots ∙ sym (without-from 0 c.args.conn.number slots c.args.conn found.slot (sym (zero_more c.args.conn.number)) found.there found.same)))

@@ -1,0 +1,17 @@
+use Rattle.std.proofs.Common.{ap, map}
+use Rattle.line_pipeline.specs.declared.batches.Item.{Item}
+use Rattle.line_pipeline.specs.Conn.{place_used}
+use Rattle.line_pipeline.proofs.TableLemmas.{kept, ends, goes_on_by, at_end, place_used-twice}
+use Rattle.line_pipeline.proofs.tables.ConnTable.use_places.Goals as goal
+
+pub loop-item-preserved : goal.loop-item-preserved
+loop-item-preserved c =
+    let i = c.loop-item.invariant in (
+      kept c.args.self.now c.loop-item.self c.apply.new.self _ i.0 c.apply.ensures,
+      goes_on_by (λ (item : Item). item.conn) c.loop-item.self c.apply.new.self place_used c.args.items.now c.loop-item.item-index c.item-item.result _ c.item-item.is c.apply.ensures c.loop-item-test.true (place_used-twice) i.1,
+    )
+
+pub returns : goal.returns
+returns c =
+    let i = c.loop-item.invariant in
+    ends c.args.self.now c.loop-item.self place_used _ _ i.0 (ap (map (λ (item : Item). item.conn)) (at_end c.args.items.now c.loop-item.item-index c.loop-item-test.false)) i.1

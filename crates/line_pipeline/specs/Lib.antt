@@ -1,0 +1,7 @@
+pub mod Output
+pub mod Live
+pub mod Conn
+pub mod Table
+pub mod Slots
+pub mod Gathered
+pub mod Settled

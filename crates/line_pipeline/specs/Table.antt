@@ -1,0 +1,55 @@
+-- The connections that are held, each under its id.
+use Rattle.std.specs.Prelude.{◌≡◌, ℕ, ◌&&◌, ◌==◌, Bool, true, not, List, [], ◌∷◌, ◌++◌, map, Option, Some, None, is_some, if◌then◌else◌}
+use Rattle.std.specs.List.{list_any, filter}
+use Rattle.hs_outside.specs.declared.connections.ConnId.{ConnId}
+use Rattle.row_types.specs.declared.tables.Schema.{Schema}
+use Rattle.line_pipeline.specs.declared.conns.Conn.{Conn}
+use Rattle.line_pipeline.specs.declared.secrets.Secrets.{Secrets}
+
+-- The schema and the secrets that lines are read by, how many connections were added so far, and those that are held.
+pub record Table : Type 0 where
+  pub schema : Schema
+  pub secrets : Secrets
+  pub added : ℕ
+  pub conns : List (ConnId × Conn)
+
+-- Whether two ids are the same.
+abbrev pub same_id : ConnId → ConnId → Bool
+same_id a b = a.number == b.number && a.generation == b.generation
+
+-- Whether an id is in a list.
+abbrev pub is_listed : List ConnId → ConnId → Bool
+is_listed ids id = list_any (λ other. same_id id other) ids
+
+-- Whether no id is in a list twice.
+abbrev pub are_once : List ConnId → Bool
+are_once [] = true
+are_once (id ∷ ids) = not (is_listed ids id) && are_once ids
+
+-- The connection of this id, if it is held.
+abbrev pub conn_at : List (ConnId × Conn) → ConnId → Option Conn
+conn_at [] id = None
+conn_at (c ∷ cs) id = if same_id c.0 id then Some c.1 else conn_at cs id
+
+-- Whether a connection of this id is held.
+abbrev pub is_held : List (ConnId × Conn) → ConnId → Bool
+is_held cs id = is_some (conn_at cs id)
+
+-- The connections with that of this id changed.
+abbrev pub changed : ConnId → (Conn → Conn) → List (ConnId × Conn) → List (ConnId × Conn)
+changed id change cs = map (λ c. if same_id c.0 id then (c.0, change c.1) else c) cs
+
+-- The connections with each of these ids changed.
+abbrev pub all_changed : List ConnId → (Conn → Conn) → List (ConnId × Conn) → List (ConnId × Conn)
+all_changed ids change cs = map (λ c. if is_listed ids c.0 then (c.0, change c.1) else c) cs
+
+-- The connections without that of this id.
+abbrev pub without : ConnId → List (ConnId × Conn) → List (ConnId × Conn)
+without id cs = filter (λ c. not (same_id c.0 id)) cs
+
+-- One connection more, and the others as they were.
+pub record Joins (old new : List (ConnId × Conn)) (id : ConnId) (conn : Conn) : Type 0 where
+  pub before : List (ConnId × Conn)
+  pub after : List (ConnId × Conn)
+  pub was : old ≡ before ++ after
+  pub is : new ≡ before ++ (id, conn) ∷ after
