@@ -1,8 +1,9 @@
-//! Why a line is refused.
+//! Why a line is refused, or what it asks for.
 ghost use Rattle.std.specs.Prelude.{◌≡◌};
 ghost use Rattle.open_index.specs.Code.{number};
 
-/// The refusals of a line, in the order of their numbers. Further numbers belong to requests that were read.
+/// The refusals, in the order of their numbers. A line meets those up to `Value` and from `Ids` on. What a line asks
+/// for meets `Value` and those up to `Big`.
 #[derive(Clone, Copy, Debug, PartialEq, Eq)]
 pub enum Code {
     /// The line begins with no `P`, no `A` and no open id's number.
@@ -33,8 +34,18 @@ pub enum Code {
     Filter = 13,
     /// A change of more columns than were opened, or of a text by a number.
     Mod = 14,
-    /// A value that is no integer, for an integer column.
+    /// A value that is no integer, for an integer column, or a text that is too long for its column.
     Value = 15,
+    /// Another row has the same key in an index that allows no two such rows.
+    Dup = 16,
+    /// NULL in a column that forbids it.
+    Null = 17,
+    /// A number outside 64 bits.
+    Range = 18,
+    /// The rows would grow beyond the limit on all rows.
+    Full = 19,
+    /// A reply that would be longer than a reply may be.
+    Big = 20,
     /// As many ids are open as may be.
     Ids = 21,
     /// Another key than the port's secret.

@@ -1,0 +1,23 @@
+//! Changing the rows that were selected: all of them, or none.
+//!
+//! | Kind | What becomes of a row |
+//! |---|---|
+//! | `Update` | the first of the columns take the values |
+//! | `Add` | each value is added to its column's cell; a NULL cell stays NULL |
+//! | `Subtract` | each value is taken off; a cell whose sign would turn stays, and so does a NULL cell |
+//! | `Remove` | the row is deleted |
+//!
+//! The rows are changed in the order of their slots' list, each as the tables are by then. The first row that is
+//! refused ends the change with its code: 18 where a number would be outside 64 bits, and else one of those that
+//! `row_insert` has. The rows are then as they were before. All memory but that for the new rows is taken before the
+//! first change. Selecting rows is the work of `find_scan`.
+#![tactic(auto)]
+
+mod cells;
+mod faults;
+mod modifies;
+mod one_row;
+#[cfg(test)]
+mod tests;
+
+pub use modifies::{Modified, modify};

@@ -1,0 +1,10 @@
+mod Gathered
+mod Fronts
+mod Fitting
+mod Fresh
+mod Few
+mod Shown
+mod Turns
+mod Chosen
+mod Distinct
+mod Plays

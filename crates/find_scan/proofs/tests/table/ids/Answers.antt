@@ -1,0 +1,8 @@
+use Rattle.std.proofs.Common.{◌≡◌, ◌<◌, ◌∙◌, ℕ, List, length, sym, ap, subst, arith}
+use Rattle.row_types.specs.declared.tables.Schema.{Schema}
+use Rattle.find_filter.specs.Fits.{FindFits}
+use Rattle.find_scan.proofs.Plays.{find_fits}
+use Rattle.find_scan.proofs.tests.table.ids.Goals as goal
+
+pub select-slots-requires : goal.select-slots-requires
+select-slots-requires c = subst (λ (s : Schema). FindFits s c.args.spec.now) (sym c.requires.play.schema) (find_fits c.args.spec.now c.requires.find)

@@ -1,0 +1,5 @@
+pub mod Select
+pub mod Show
+pub mod Rendering
+pub mod Gathering
+pub mod Examples

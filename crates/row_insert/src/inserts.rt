@@ -1,0 +1,56 @@
+//! Inserting a row.
+ghost use Rattle.std.specs.Prelude.{◌≡◌, ◌≢◌, IfOk, Ok, None};
+ghost use Rattle.open_index.specs.Fits.{InsertFits};
+ghost use Rattle.table_rows.specs.Rows.{columns_of};
+ghost use Rattle.row_insert.specs.Refusal.{refusal_of};
+ghost use Rattle.row_insert.specs.Insert.{new_row, answer_to, IsPut, IsUnchanged};
+ghost use Rattle.row_insert.specs.declared.inserts.Inserted.TheVariants.{Done};
+
+use crate::new_rows::new_row;
+use crate::refusals::refusal_of;
+use open_index::InsertSpec;
+use row_types::Schema;
+use std::alloc::{AllocError, Global};
+use table_rows::{Tables, UndoList};
+
+/// What became of an insert.
+#[derive(Clone, Copy, Debug, PartialEq, Eq)]
+pub enum Inserted {
+    Done,
+    /// The number of the code that says why the row was refused.
+    Refused(u32),
+}
+
+/// Puts a new row, in which columns without a value have their presets.
+pub fn insert(
+    alloc: Global,
+    tables: &mut Tables,
+    schema: &Schema,
+    spec: &InsertSpec,
+    undo: &mut UndoList,
+) -> Result<Inserted, AllocError>
+    requires schema { schema.now ≡ tables.old.schema }
+    requires spec { InsertFits schema.now spec.now }
+    ensures answer { IfOk result (λ answer. answer ≡ answer_to (refusal_of tables.old spec.now.table
+        (new_row (columns_of tables.old spec.now.table) spec.now) None)) }
+    ensures put { result ≡ Ok Done → IsPut spec.now.table
+        (new_row (columns_of tables.old spec.now.table) spec.now)
+        tables.old tables.new undo.old.entries undo.new.entries }
+    ensures schema { tables.new.schema ≡ tables.old.schema }
+    // A row that is refused, or that no memory is there for, leaves all rows as they were.
+    ensures unchanged { result ≢ Ok Done → IsUnchanged spec.now.table
+        tables.old tables.new undo.old.entries undo.new.entries }
+{
+    // A proof knows that the tables are valid where it has asked for their shape.
+    let _ = tables.schema();
+    let columns = schema.tables.as_slice()[spec.table as usize]
+        .columns
+        .as_slice();
+    let row = new_row(alloc, columns, spec)?;
+    if let Some(code) = refusal_of(tables, spec.table, &row, None) {
+        return Ok(Inserted::Refused(code.number()));
+    }
+    tables.reserve(spec.table, 1, undo)?;
+    tables.put(spec.table, row, undo);
+    Ok(Inserted::Done)
+}
