@@ -22,12 +22,12 @@ fn the_operators_select_by_a_key_in_their_order(rt: HostRuntime) -> Result<(), F
     let alloc = rt.alloc();
     let tables = four_rows(alloc)?;
     for (op, selected) in [
-        (FindOp::Equal, b"123".as_slice()),
-        (FindOp::Greater, b"4"),
-        (FindOp::GreaterEqual, b"1234"),
-        (FindOp::Less, b""),
+        (FindOp::Equal, 123),
+        (FindOp::Greater, 4),
+        (FindOp::GreaterEqual, 1234),
+        (FindOp::Less, 0),
         // Equal rows descend by primary key.
-        (FindOp::LessEqual, b"321"),
+        (FindOp::LessEqual, 321),
     ] {
         let spec = find(alloc, 1, op, &[4], ALL)?;
         assert!(rt; selects(alloc, &tables, &spec, selected)?, "{op:?}");
@@ -35,22 +35,21 @@ fn the_operators_select_by_a_key_in_their_order(rt: HostRuntime) -> Result<(), F
     Ok(())
 }
 
-/// Whether a find selects the rows with these ids, each written as one digit.
+/// Whether a find selects the rows with these ids, each written as one digit. Without a row that is 0.
 fn selects(
     alloc: Global,
     tables: &Tables,
     spec: &find_filter::FindSpec,
-    digits: &[u8],
+    digits: i64,
 ) -> Result<bool, AllocError>
     requires play { IsPlay tables.now }
     requires find { IsFind spec.now }
 {
-    let ids = ids(alloc, tables, spec)?;
-    let mut is_same = ids.len() == digits.len();
-    for (id, digit) in ids.as_slice().iter().zip(digits) {
-        is_same = is_same && id.checked_add(48) == Some(*digit as i64);
+    let mut read: i64 = 0;
+    for id in ids(alloc, tables, spec)?.as_slice() {
+        read = read.wrapping_mul(10).wrapping_add(*id);
     }
-    Ok(is_same)
+    Ok(read == digits)
 }
 
 #[test]
@@ -58,16 +57,16 @@ fn limit_and_offset_cut_what_is_selected(rt: HostRuntime) -> Result<(), Fail> {
     let alloc = rt.alloc();
     let tables = four_rows(alloc)?;
     for (limit, offset, selected) in [
-        (2, 0, b"32".as_slice()),
-        (2, 1, b"21"),
-        (0, 0, b""),
-        (0, 1, b""),
-        (9, 3, b""),
-        (9, 4, b""),
-        (u32::MAX, 0, b"321"),
-        (u32::MAX, 2, b"1"),
-        (u32::MAX, u32::MAX, b""),
-        (1, u32::MAX, b""),
+        (2, 0, 32),
+        (2, 1, 21),
+        (0, 0, 0),
+        (0, 1, 0),
+        (9, 3, 0),
+        (9, 4, 0),
+        (u32::MAX, 0, 321),
+        (u32::MAX, 2, 1),
+        (u32::MAX, u32::MAX, 0),
+        (1, u32::MAX, 0),
     ] {
         let spec = find(alloc, 1, FindOp::LessEqual, &[4], (limit, offset))?;
         assert!(rt;
@@ -83,21 +82,21 @@ fn the_first_values_of_an_index_are_a_key(rt: HostRuntime) -> Result<(), Fail> {
     let alloc = rt.alloc();
     let tables = four_rows(alloc)?;
     for (op, n, selected) in [
-        (FindOp::Equal, 4, b"123".as_slice()),
-        (FindOp::Greater, 3, b"1234"),
-        (FindOp::Less, 6, b"321"),
-        (FindOp::LessEqual, 6, b"4321"),
-        (FindOp::Equal, 5, b""),
+        (FindOp::Equal, 4, 123),
+        (FindOp::Greater, 3, 1234),
+        (FindOp::Less, 6, 321),
+        (FindOp::LessEqual, 6, 4321),
+        (FindOp::Equal, 5, 0),
     ] {
         let spec = find(alloc, 2, op, &[n], ALL)?;
         assert!(rt; selects(alloc, &tables, &spec, selected)?, "{op:?} {n}");
     }
     for (op, id, selected) in [
-        (FindOp::Equal, 2, b"2".as_slice()),
-        (FindOp::Greater, 2, b"34"),
-        (FindOp::GreaterEqual, 2, b"234"),
-        (FindOp::Less, 2, b"1"),
-        (FindOp::LessEqual, 2, b"21"),
+        (FindOp::Equal, 2, 2),
+        (FindOp::Greater, 2, 34),
+        (FindOp::GreaterEqual, 2, 234),
+        (FindOp::Less, 2, 1),
+        (FindOp::LessEqual, 2, 21),
     ] {
         let spec = find(alloc, 2, op, &[4, id], ALL)?;
         assert!(rt; selects(alloc, &tables, &spec, selected)?, "{op:?} {id}");
@@ -110,22 +109,26 @@ fn a_list_is_gone_through_once_in_its_order(rt: HostRuntime) -> Result<(), Fail>
     let alloc = rt.alloc();
     let tables = four_rows(alloc)?;
     for (list, limit, offset, selected) in [
-        ([3, 1, 3], 2, 1, b"1".as_slice()),
-        ([3, 1, 3], 9, 0, b"31"),
-        ([1, 3, 3], 9, 0, b"13"),
-        ([3, 3, 3], 9, 0, b"3"),
-        ([9, 8, 7], 9, 0, b""),
-        ([9, 4, 8], 9, 0, b"4"),
-        ([4, 2, 3], 2, 0, b"42"),
+        ([3, 1, 3], 2, 1, 1),
+        ([3, 1, 3], 9, 0, 31),
+        ([1, 3, 3], 9, 0, 13),
+        ([3, 3, 3], 9, 0, 3),
+        ([9, 8, 7], 9, 0, 0),
+        ([9, 4, 8], 9, 0, 4),
+        ([4, 2, 3], 2, 0, 42),
     ] {
         let spec = find(alloc, 0, FindOp::Equal, &[9], (limit, offset))?;
         let spec = listed(alloc, spec, &list)?;
         assert!(rt; selects(alloc, &tables, &spec, selected)?, "{list:?}");
     }
-    // The second key of a pair stays, and the offset counts over all walks.
+    // The offset counts over all walks.
     let spec = find(alloc, 1, FindOp::Equal, &[0], (3, 1))?;
     let spec = listed(alloc, spec, &[6, 4])?;
-    assert!(rt; selects(alloc, &tables, &spec, b"123")?);
+    assert!(rt; selects(alloc, &tables, &spec, 123)?);
+    // The key's other value stays.
+    let spec = find(alloc, 2, FindOp::Equal, &[9, 2], ALL)?;
+    let spec = listed(alloc, spec, &[6, 4])?;
+    assert!(rt; selects(alloc, &tables, &spec, 2)?);
     Ok(())
 }
 
@@ -134,11 +137,11 @@ fn filters_pass_over_a_row_or_end_the_find(rt: HostRuntime) -> Result<(), Fail> 
     let alloc = rt.alloc();
     let tables = four_rows(alloc)?;
     for (stop, op, on_id, number, selected) in [
-        (false, FilterOp::NotEqual, true, 2, b"134".as_slice()),
-        (true, FilterOp::NotEqual, true, 2, b"1"),
-        (true, FilterOp::Equal, false, 4, b"123"),
-        (false, FilterOp::Equal, false, 6, b"4"),
-        (true, FilterOp::Equal, false, 6, b""),
+        (false, FilterOp::NotEqual, true, 2, 134),
+        (true, FilterOp::NotEqual, true, 2, 1),
+        (true, FilterOp::Equal, false, 4, 123),
+        (false, FilterOp::Equal, false, 6, 4),
+        (true, FilterOp::Equal, false, 6, 0),
     ] {
         let spec = find(alloc, 0, FindOp::GreaterEqual, &[1], ALL)?;
         let spec = filtered(spec, stop, op, on_id, number)?;
@@ -158,19 +161,19 @@ fn filters_are_tested_before_limit_and_offset(rt: HostRuntime) -> Result<(), Fai
     let spec = find(alloc, 0, FindOp::GreaterEqual, &[1], ALL)?;
     let spec = filtered(spec, false, FilterOp::Equal, false, 4)?;
     let spec = filtered(spec, true, FilterOp::NotEqual, true, 3)?;
-    assert!(rt; selects(alloc, &tables, &spec, b"12")?);
+    assert!(rt; selects(alloc, &tables, &spec, 12)?);
     // What is passed over counts for neither.
     let spec = find(alloc, 0, FindOp::GreaterEqual, &[1], (2, 0))?;
     let spec = filtered(spec, false, FilterOp::NotEqual, true, 1)?;
-    assert!(rt; selects(alloc, &tables, &spec, b"23")?);
+    assert!(rt; selects(alloc, &tables, &spec, 23)?);
     let spec = find(alloc, 0, FindOp::GreaterEqual, &[1], (9, 1))?;
     let spec = filtered(spec, false, FilterOp::NotEqual, true, 1)?;
-    assert!(rt; selects(alloc, &tables, &spec, b"34")?);
+    assert!(rt; selects(alloc, &tables, &spec, 34)?);
     // A row that ends the find ends all walks of a list.
     let spec = find(alloc, 0, FindOp::Equal, &[0], ALL)?;
     let spec = listed(alloc, spec, &[4, 2, 3, 1])?;
     let spec = filtered(spec, true, FilterOp::NotEqual, true, 3)?;
-    assert!(rt; selects(alloc, &tables, &spec, b"42")?);
+    assert!(rt; selects(alloc, &tables, &spec, 42)?);
     Ok(())
 }
 
