@@ -271,33 +271,13 @@ fn each_row_is_changed_once_in_the_order_of_the_index(rt: HostRuntime) -> Result
         (b"1\t+\t3\t2\tb\t2", 1, "1 a 3 |2 b 2 |"),
         (b"1\t+\t3\t3\tc\t1", 1, "1 a 3 |2 b 2 |3 c 1 |"),
         // The numbers are those that the index goes by: a row that comes to stand further on is not met again.
-        (
-            b"7\t>=\t1\t0\t9\t0\t+\t1",
-            3,
-            "1 a 4 |2 b 3 |3 c 2 |",
-        ),
+        (b"7\t>=\t1\t0\t9\t0\t+\t1", 3, "1 a 4 |2 b 3 |3 c 2 |"),
         // From the least id on, a row meets the next one's id. From the greatest on, none does.
-        (
-            b"6\t>=\t1\t0\t9\t0\t+\t1",
-            116,
-            "1 a 4 |2 b 3 |3 c 2 |",
-        ),
-        (
-            b"8\t>=\t1\t0\t9\t0\t+\t1",
-            3,
-            "2 a 4 |3 b 3 |4 c 2 |",
-        ),
+        (b"6\t>=\t1\t0\t9\t0\t+\t1", 116, "1 a 4 |2 b 3 |3 c 2 |"),
+        (b"8\t>=\t1\t0\t9\t0\t+\t1", 3, "2 a 4 |3 b 3 |4 c 2 |"),
         // Not so where numbers are taken off: then the least goes first, and no row meets one.
-        (
-            b"8\t>=\t1\t0\t9\t0\t-\t1",
-            116,
-            "2 a 4 |3 b 3 |4 c 2 |",
-        ),
-        (
-            b"6\t>=\t1\t0\t9\t0\t-\t1",
-            3,
-            "1 a 4 |2 b 3 |3 c 2 |",
-        ),
+        (b"8\t>=\t1\t0\t9\t0\t-\t1", 116, "2 a 4 |3 b 3 |4 c 2 |"),
+        (b"6\t>=\t1\t0\t9\t0\t-\t1", 3, "1 a 4 |2 b 3 |3 c 2 |"),
     ] {
         assert_eq!(rt;
             told(alloc, &mut tables, &schema, &mut handles, &mut undo, line)?,
