@@ -1,11 +1,12 @@
 -- Changes on the way, which lead back to the same rows.
 --     back_none, back_then      no change, and one after others
 --     back_put, back_unchanged, back_done      what an insert and a change note
-use Rattle.std.proofs.Common.{◌≡◌, ℕ, ◌≤◌, List, [], ◌∷◌, ◌++◌, length, take, drop, refl, ap, sym, subst, ◌∙◌, arith}
+--     back_inserted, back_modified      by what came of them
+--     taken_back      the rows once all is taken back
+use Rattle.std.proofs.Common.{◌≡◌, ◌≢◌, ℕ, ◌≤◌, Result, Ok, Err, List, [], ◌∷◌, ◌++◌, length, take, drop, refl, ap, sym, subst, ◌∙◌, arith}
 use Rattle.std.proofs.lemmas.List.{take-append-le, take-append-drop, length-append, length-take-le}
 use Rattle.row_types.specs.declared.values.Value.{Value}
 use Rattle.open_index.specs.declared.codes.Code.{Code}
-use Rattle.std.specs.Prelude.{Result}
 use Rattle.table_rows.specs.declared.undo.Undo.{Undo}
 use Rattle.table_rows.specs.Rows.{State}
 use Rattle.table_rows.specs.Undoing.{since, undone_all, LeadsBack}
@@ -13,9 +14,15 @@ use Rattle.table_rows.specs.Widths.{IsRoomier}
 use Rattle.table_rows.proofs.Undone.{leads_back_none, leads_back_more, since_end}
 use Rattle.table_rows.proofs.Roomier.{roomier_itself, roomier_then, widened_roomier, leads_back_roomier}
 use Rattle.row_insert.specs.Insert.{IsPut, IsUnchanged}
+use Rattle.row_insert.specs.declared.inserts.Inserted.{Inserted}
+use Rattle.row_insert.specs.declared.inserts.Inserted.TheVariants.{Done, Refused}
+use Rattle.find_modify.specs.declared.modifies.Modified.{Modified}
+use Rattle.find_modify.specs.declared.modifies.Modified.TheVariants as modified
 use Rattle.find_modify.specs.Change.{IsDone}
 use Rattle.find_modify.proofs.Stepping.{steps_none, rest_noted}
+use Rattle.batch_answers.specs.Database.{database_of}
 use Rattle.batch_answers.specs.Steps.{CanGoBack}
+use Rattle.batch_answers.proofs.Alone.{roomier_same}
 
 pub back_none : (state : State) (undos : List Undo) → CanGoBack state state undos undos
 back_none state undos = record {
@@ -79,3 +86,20 @@ back_done table made before after undos more schema done = record {
   roomier = widened_roomier table before done.between done.widened;
   back = done.back;
 }
+
+-- what came of an insert leads back
+pub back_inserted : {E : Type 0} (table : ℕ) (row : List Value) (before after : State) (undos more : List Undo) → after.schema ≡ before.schema → (result : Result Inserted E) → (result ≡ Ok Done → IsPut table row before after undos more) → (result ≢ Ok Done → IsUnchanged table before after undos more) → CanGoBack before after undos more
+back_inserted table row before after undos more schema (Ok Done) put same = back_put table row before after undos more schema (put refl)
+back_inserted table row before after undos more schema (Ok (Refused code)) put same = back_unchanged table before after undos more schema (same (λ e. cc))
+back_inserted table row before after undos more schema (Err error) put same = back_unchanged table before after undos more schema (same (λ e. cc))
+
+-- and so does what came of a change
+pub back_modified : {E : Type 0} (table : ℕ) (made : Result State Code) (before after : State) (undos more : List Undo) → after.schema ≡ before.schema → (result : Result Modified E) → ((count : ℕ) → result ≡ Ok (modified.Done count) → IsDone table made before after undos more) → (((count : ℕ) → result ≢ Ok (modified.Done count)) → IsUnchanged table before after undos more) → CanGoBack before after undos more
+back_modified table made before after undos more schema (Ok (modified.Done count)) done same = back_done table made before after undos more schema (done count refl)
+back_modified table made before after undos more schema (Ok (modified.Refused code)) done same = back_unchanged table before after undos more schema (same (λ count e. cc))
+back_modified table made before after undos more schema (Err error) done same = back_unchanged table before after undos more schema (same (λ count e. cc))
+
+-- all of it is taken back
+pub taken_back : (before now after : State) (undos more : List Undo) → CanGoBack before now undos more → after ≡ undone_all (since (length undos) more) now → database_of after ≡ database_of before
+taken_back before now after undos more back is =
+    ap database_of (is ∙ back.back.back) ∙ roomier_same before back.between back.roomier

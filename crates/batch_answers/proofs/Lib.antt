@@ -6,3 +6,5 @@ pub mod Named
 pub mod Going
 pub mod Runs
 pub mod Asked
+pub mod Written
+pub mod Fits

@@ -53,13 +53,13 @@ module _ (f : ℕ → ℕ) (apart : (a b : ℕ) → (f a == f b) ≡ (a == b)) w
       ∙ ap (all_moved f) (filter_agree (λ (e : Entry). not (f e.1 == f slot)) (λ (e : Entry). not (is_in slot e)) entries
       (each_member (λ (e : Entry). not (f e.1 == f slot) ≡ not (is_in slot e)) entries (λ e inside. ap not (apart e.1 slot))))
 
+  found_moved : (slot : ℕ) (e : Entry) (es : List Entry) (b : Bool) → row_of (f slot) (all_moved f es) ≡ row_of slot es → row_in (cond b (Some (moved f e)) (find (is_in (f slot)) (all_moved f es))) ≡ row_in (cond b (Some e) (find (is_in slot) es))
+  found_moved slot e es true later = refl
+  found_moved slot e es false later = later
+
   pub row_moved : (slot : ℕ) (entries : List Entry) → row_of (f slot) (all_moved f entries) ≡ row_of slot entries
   row_moved slot [] = refl
-  row_moved slot (e ∷ es) = rw (apart e.1 slot) (by_slot (e.1 == slot))
-    where
-      by_slot : (b : Bool) → row_in (cond b (Some (moved f e)) (find (is_in (f slot)) (all_moved f es))) ≡ row_in (cond b (Some e) (find (is_in slot) es))
-      by_slot true = refl
-      by_slot false = row_moved slot es
+  row_moved slot (e ∷ es) = rw (apart e.1 slot) (found_moved slot e es (e.1 == slot) (row_moved slot es))
 
   pub put_moved : (indexes : List IndexDef) (slot : ℕ) (row : List Value) (entries : List Entry) → with_row indexes (f slot) row (all_moved f entries) ≡ all_moved f (with_row indexes slot row entries)
   put_moved indexes slot row entries =

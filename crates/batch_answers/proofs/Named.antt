@@ -79,7 +79,7 @@ module _ (rows : Rows) (own : HaveOwnSlots rows.entries) (within : AllByRecursio
       by_same false differ = ne_eqb (slot_at rows a) (slot_at rows b) (λ same. true≢false (sym (eq-eqb a b (same_place a b same)) ∙ differ))
 
   named_rows : all_moved (slot_at rows) (placed_from 0 (rows_in rows)) ≡ rows.entries
-  named_rows = named (slot_at rows) 0 rows.entries slot_here
+  named_rows = named (slot_at rows) 0 rows.entries (λ i below. subst (λ (n : ℕ). slot_at rows n ≡ (get_or rows.entries i no_entry).1) (omega arith) (slot_here i below))
 
 module _ (state : State) (valid : IsValidState state) (table : ℕ) (below : table < length state.tables) where
   -- the slots that stand for the places of this table's rows

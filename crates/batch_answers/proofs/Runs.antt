@@ -1,5 +1,6 @@
 -- The parts of a batch, item by item.
 --     part_ends, part_goes_on, rows_go_on      an item that ends its run, and one that doesn't
+--     ends_step, goes_step, rows_step      the same with all that was told before
 use Rattle.std.proofs.Common.{◌≡◌, ℕ, Bool, true, false, not, cond, List, [], ◌∷◌, ◌++◌, refl, ap, ap₂, sym, subst, ◌∙◌}
 use Rattle.std.specs.Prelude.{◌==◌, ◌&&◌}
 use Rattle.std.proofs.lemmas.Bool.{true≢false, and_parts, eqb-true, not-true}
@@ -81,3 +82,31 @@ rows_go_on db item rest = by_end (ends_run (item ∷ rest)) refl
     by_end false ends =
         let on = goes_on item rest ends in
         ap (after_runs db) on.3 ∙ ap (after_runs (answered db item.kind).1) (sym on.2)
+
+-- what a step of a batch makes of the parts, of which those so far and the text of the last one are told
+module _ (db after : Database) (text now : List ℕ) (parts more : List Part) (item : Item) (items rest : List Item) (whole : List Part) (cut : items ≡ item ∷ rest) (appended : now ≡ text ++ (answered db item.kind).0) (left : after ≡ (answered db item.kind).1) (told : parts ++ first_behind text (parts_of db (runs_of items)) ≡ whole) where
+  pub ends_step : ends_run items ≡ true → (fresh : List ℕ) → fresh ≡ [] → more ≡ parts ++ record { conn = item.conn; text = now } ∷ [] → more ++ first_behind fresh (parts_of after (runs_of rest)) ≡ whole
+  ends_step ends fresh empty pushed =
+      let later = parts_of after (runs_of rest) in
+      let part = record { conn = item.conn; text = now } in
+      ap₂ (λ (ps : List Part) (t : List ℕ). ps ++ first_behind t later) pushed empty
+      ∙ ap (λ (ps : List Part). (parts ++ part ∷ []) ++ ps) (behind_none later)
+      ∙ append_assoc parts (part ∷ []) later
+      ∙ ap₂ (λ (t : List ℕ) (d : Database). parts ++ record { conn = item.conn; text = t } ∷ parts_of d (runs_of rest)) appended left
+      ∙ ap (λ (ps : List Part). parts ++ ps) (sym (part_ends db text (answered db item.kind).0 item rest refl (ap ends_run (sym cut) ∙ ends)))
+      ∙ ap (λ (is : List Item). parts ++ first_behind text (parts_of db (runs_of is))) (sym cut)
+      ∙ told
+
+  pub goes_step : ends_run items ≡ false → more ≡ parts → more ++ first_behind now (parts_of after (runs_of rest)) ≡ whole
+  goes_step ends same =
+      ap (λ (ps : List Part). ps ++ first_behind now (parts_of after (runs_of rest))) same
+      ∙ ap₂ (λ (t : List ℕ) (d : Database). parts ++ first_behind t (parts_of d (runs_of rest))) appended left
+      ∙ ap (λ (ps : List Part). parts ++ ps) (sym (part_goes_on db text (answered db item.kind).0 item rest refl (ap ends_run (sym cut) ∙ ends)))
+      ∙ ap (λ (is : List Item). parts ++ first_behind text (parts_of db (runs_of is))) (sym cut)
+      ∙ told
+
+-- and what it makes of the rows
+pub rows_step : (db after whole : Database) (item : Item) (items rest : List Item) → items ≡ item ∷ rest → after ≡ (answered db item.kind).1 → after_runs db (runs_of items) ≡ whole → after_runs after (runs_of rest) ≡ whole
+rows_step db after whole item items rest cut left told =
+    ap (λ (d : Database). after_runs d (runs_of rest)) left ∙ sym (rows_go_on db item rest)
+    ∙ ap (λ (is : List Item). after_runs db (runs_of is)) (sym cut) ∙ told

@@ -32,8 +32,8 @@ abbrev pub chosen : Database → FindSpec → List Entry
 chosen db find = selected (placed_in db) find
 
 -- The reply that shows them.
-abbrev pub shown : Database → FindSpec → List ℕ
-shown db find = find_reply find.columns (rows_alone (chosen db find))
+abbrev pub rows_reply : Database → FindSpec → List ℕ
+rows_reply db find = find_reply find.columns (rows_alone (chosen db find))
 
 -- What follows where a reply fits. One that is too big is refused, and the rows stay.
 abbrev pub unless_big : Rendered → Database → List ℕ × Database → List ℕ × Database
@@ -42,7 +42,7 @@ unless_big TooBig db answer = (code_reply big, db)
 
 -- A find shows its rows, and they stay.
 abbrev pub find_answered : Database → FindSpec → List ℕ × Database
-find_answered db find = unless_big (rendered (shown db find)) db (shown db find, db)
+find_answered db find = unless_big (rendered (rows_reply db find)) db (rows_reply db find, db)
 
 -- The tables once the chosen rows are changed, one after the other, each under the place that it had at first; or
 -- why one of them is refused.
@@ -59,7 +59,7 @@ unless_refused db reply (Err code) = (code_reply (number code), db)
 abbrev pub change_answered : Database → FindSpec → ModSpec → List ℕ × Database
 change_answered db find change =
     if change.show
-    then unless_big (rendered (shown db find)) db (unless_refused db (shown db find) (changed db find change))
+    then unless_big (rendered (rows_reply db find)) db (unless_refused db (rows_reply db find) (changed db find change))
     else unless_refused db (count_reply (length (chosen db find))) (changed db find change)
 
 -- How rows compare by their cells at some columns.

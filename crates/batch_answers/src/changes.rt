@@ -1,7 +1,10 @@
 //! A change, as an item of a batch.
 ghost use Rattle.std.specs.Prelude.{◌≡◌, ℕ, List, ◌++◌, length, true, false, IfOk, OnOk, Ok};
 ghost use Rattle.find_filter.specs.Fits.{FindFits, ModFits};
-ghost use Rattle.find_scan.specs.Select.{selected, slots_of};
+ghost use Rattle.std.specs.List.{All};
+ghost use Rattle.table_rows.specs.declared.slot_ref.SlotRef.{SlotRef as Slot};
+ghost use Rattle.table_rows.specs.Slots.{is_live_in};
+ghost use Rattle.find_scan.specs.Select.{selected, slots_of, AreDistinct};
 ghost use Rattle.find_modify.specs.declared.modifies.Modified.TheVariants.{Done};
 ghost use Rattle.batch_answers.specs.Database.{database_of};
 ghost use Rattle.batch_answers.specs.Answers.{chosen, changed, unless_refused, change_answered};
@@ -62,15 +65,15 @@ fn show_and_change(
     let slots = select(alloc, tables, find)?;
     let columns = find.columns.as_slice();
     let len = out.len();
-    if render(tables, find.table, slots.as_slice(), columns, out)? == Rendered::TooBig {
-        return push_code(out, Code::Big.number());
-    }
-    match change_rows(alloc, tables, find, slots.as_slice(), change, undo)? {
-        Modified::Done(_) => Ok(()),
-        Modified::Refused(code) => {
-            out.truncate(len);
-            push_code(out, code)
-        }
+    match render(tables, find.table, slots.as_slice(), columns, out)? {
+        Rendered::TooBig => push_code(out, Code::Big.number()),
+        Rendered::Fits => match change_rows(alloc, tables, find, slots.as_slice(), change, undo)? {
+            Modified::Done(_) => Ok(()),
+            Modified::Refused(code) => {
+                out.truncate(len);
+                push_code(out, code)
+            }
+        },
     }
 }
 
@@ -111,6 +114,8 @@ fn change_rows(
     requires find { FindFits tables.old.schema find.now }
     requires change { ModFits tables.old.schema find.now.table find.now.columns change.now }
     requires slots { slots.now ≡ slots_of (selected tables.old find.now) }
+    requires live { All (λ (slot : Slot). is_live_in tables.old find.now.table slot.0 ≡ true) slots.now }
+    requires distinct { AreDistinct slots.now }
     ensures made { IfOk result (λ answer. (reply : List ℕ) → unless_refused (database_of tables.old)
         reply (changed (database_of tables.old) find.now change.now)
         ≡ (reply_of reply answer, database_of tables.new)) }

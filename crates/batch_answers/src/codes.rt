@@ -14,10 +14,11 @@ pub(crate) fn push_code(out: &mut Vec<u8>, code: u32) -> Result<(), AllocError>
     ensures { OnOk result (out.new.items ≡ out.old.items ++ code_reply code) }
 {
     push_head(out, code, 1)?;
-    if code != 0 {
-        out.push(TAB)?;
-        push_text(out, text_of(code).as_bytes())?;
+    if code == 0 {
+        return Ok(out.push(LINE_FEED)?);
     }
+    out.push(TAB)?;
+    push_text(out, text_of(code).as_bytes())?;
     Ok(out.push(LINE_FEED)?)
 }
 
