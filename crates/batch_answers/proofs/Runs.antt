@@ -88,7 +88,7 @@ module _ (db after : Database) (text now : List ℕ) (parts more : List Part) (i
   pub ends_step : ends_run items ≡ true → (fresh : List ℕ) → fresh ≡ [] → more ≡ parts ++ record { conn = item.conn; text = now } ∷ [] → more ++ first_behind fresh (parts_of after (runs_of rest)) ≡ whole
   ends_step ends fresh empty pushed =
       let later = parts_of after (runs_of rest) in
-      let part = record { conn = item.conn; text = now } in
+      let part : Part = record { conn = item.conn; text = now } in
       ap₂ (λ (ps : List Part) (t : List ℕ). ps ++ first_behind t later) pushed empty
       ∙ ap (λ (ps : List Part). (parts ++ part ∷ []) ++ ps) (behind_none later)
       ∙ append_assoc parts (part ∷ []) later
