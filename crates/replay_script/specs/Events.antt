@@ -47,11 +47,13 @@ abbrev pub fault_event : List Token → Option Event
 fault_event (Text conn ∷ []) = option_map Fault (u32_of conn)
 fault_event _ = None
 
--- `limit bytes <n>`: n is 1 to 268,435,456.
+-- A limit is 1 to 268,435,456.
+abbrev pub limit_of : ℕ → Option Event
+limit_of n = if nat_le 1 n && nat_le n 268435456 then Some (LimitBytes n) else None
+
+-- `limit bytes <n>`: the sizes of all rows come to n at most.
 abbrev pub limit_event : List Token → Option Event
-limit_event (Text what ∷ Text n ∷ []) = if bytes_eq what (codes "bytes") then option_and_then limit_of (u32_of n) else None where
-  limit_of : ℕ → Option Event
-  limit_of n = if nat_le 1 n && nat_le n 268435456 then Some (LimitBytes n) else None
+limit_event (Text what ∷ Text n ∷ []) = if bytes_eq what (codes "bytes") then option_and_then limit_of (u32_of n) else None
 limit_event _ = None
 
 -- `secret <port> <key>`: the key of a port, which is a text.
@@ -87,9 +89,11 @@ event_of_tokens (Text word ∷ rest) =
     else rarer_event word rest
 event_of_tokens _ = None
 
--- The event that a line says, if it is one. A line that is too long says none, and neither does one without tokens.
+-- The event of what was read of a line: its tokens, or its first bad place.
+abbrev pub event_read : Result (List Token) ℕ → Option Event
+event_read (Ok tokens) = event_of_tokens tokens
+event_read (Err place) = None
+
+-- The event that a line says, if it is one. A line that is too long says none.
 abbrev pub event_of : List ℕ → Option Event
-event_of line = if nat_le (length line) MAX_LINE_LEN then said (line_at line) else None where
-  said : Result (List Token) ℕ → Option Event
-  said (Ok tokens) = event_of_tokens tokens
-  said (Err place) = None
+event_of line = if nat_le (length line) MAX_LINE_LEN then event_read (line_at line) else None

@@ -1,9 +1,19 @@
 //! Lines of scripts, and what they say.
-ghost use Rattle.std.specs.Prelude.{◌≡◌, ◌++◌, ◌∷◌, [], None, Some, codes};
+ghost use Rattle.std.specs.Prelude.{◌≡◌, ◌≤◌, ℕ, List, ◌++◌, ◌∷◌, [], None, Some, codes, length, IfSome};
 ghost use Rattle.hs_token.specs.declared.tokens.Token.{Token};
 ghost use Rattle.hs_outside.specs.declared.ports.Port.TheVariants.{Reading, Writing};
+ghost use Rattle.hs_token.specs.Spelling.{line_spelled};
+ghost use Rattle.replay_script.specs.declared.events.Event.{Event};
 ghost use Rattle.replay_script.specs.declared.events.Event.TheVariants.{Table, LimitBytes, Secret, Open, Bytes, End, Room, Fault, Turn, Show};
 ghost use Rattle.replay_script.specs.Events.{event_of};
+ghost use Rattle.replay_script.specs.Spelling.{IsEvent, tokens_of};
+
+/// What a line says is an event that a script may have, and each such event has a line that says it.
+pub fn lines_say_the_events()
+    ensures no_other { (line : List ℕ) → IfSome (event_of line) IsEvent }
+    ensures each { (event : Event) → IsEvent event → length (line_spelled (tokens_of event)) ≤ 65536
+        → event_of (line_spelled (tokens_of event)) ≡ Some event }
+{}
 
 /// One line of each kind.
 pub fn example_events()

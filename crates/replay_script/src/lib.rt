@@ -27,5 +27,5 @@ mod turn_events;
 
 pub use event_lines::event_of;
 pub use events::Event;
-pub use laws::{example_events, example_refusals};
+pub use laws::{example_events, example_refusals, lines_say_the_events};
 pub use ports::port_of;
