@@ -1,9 +1,8 @@
 -- What the line of an event says is that event.
-use Rattle.std.proofs.Common.{◌≡◌, ◌≢◌, ℕ, ◌≤◌, true, cond, leb, List, [], ◌∷◌, length, map, Some, None, refl, sym, ap, ◌∙◌, arith}
+use Rattle.std.proofs.Common.{◌≡◌, ◌≢◌, ℕ, ◌≤◌, List, [], ◌∷◌, length, map, Some, refl, arith}
 use Rattle.std.specs.List.{AllByRecursion}
-use Rattle.std.proofs.lemmas.Bool.{le-leb, cond-true}
+use Rattle.std.proofs.lemmas.Bool.{le-leb}
 use Rattle.hs_line.specs.declared.limits.TheConstants.{MAX_LINE_LEN}
-use Rattle.hs_token.specs.declared.tokens.Token.{Token}
 use Rattle.hs_token.specs.Spelling.{line_spelled}
 use Rattle.hs_token.proofs.LineLemmas.{line_again}
 use Rattle.hs_token.proofs.NumberLemmas.{printed_u32}

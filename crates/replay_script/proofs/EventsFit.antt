@@ -1,6 +1,6 @@
 -- What a line says is an event that a script may have.
-use Rattle.std.proofs.Common.{◌≡◌, ℕ, Bool, true, false, cond, List, [], ◌∷◌, length, Option, Some, None, Result, Ok, Err, refl, sym, ap, arith}
-use Rattle.std.specs.Prelude.{codes, option_map, option_and_then, nat_lt, nat_le, ◌&&◌, ◌^◌, ◌≤◌}
+use Rattle.std.proofs.Common.{◌≡◌, ℕ, Bool, true, false, cond, List, [], ◌∷◌, length, Option, Some, None, Result, Ok, Err, ap}
+use Rattle.std.specs.Prelude.{codes, option_map, option_and_then, nat_lt, nat_le, ◌&&◌, ◌^◌}
 use Rattle.std.specs.Option.{IfSome}
 use Rattle.std.specs.List.{AllByRecursion}
 use Rattle.std.specs.Str.{bytes_eq}
@@ -12,10 +12,9 @@ use Rattle.hs_token.specs.declared.tokens.Token.{Token}
 use Rattle.hs_token.specs.declared.tokens.Token.TheVariants.{Null, Text}
 use Rattle.hs_token.specs.Number.{is_number, u32_of}
 use Rattle.hs_token.specs.Reading.{line_at}
-use Rattle.hs_outside.specs.declared.ports.Port.{Port}
 use Rattle.hs_outside.specs.declared.ports.Port.TheVariants.{Reading, Writing}
 use Rattle.replay_script.specs.declared.events.Event.{Event}
-use Rattle.replay_script.specs.declared.events.Event.TheVariants.{Table, LimitBytes, Secret, Open, Bytes, End, Room, Fault, Turn, Show}
+use Rattle.replay_script.specs.declared.events.Event.TheVariants.{Table, LimitBytes, Secret, Open, Bytes, End, Room, Fault, Turn}
 use Rattle.replay_script.specs.Words.{both, port_of, numbers_of, are_conns, conns_of}
 use Rattle.replay_script.specs.Events.{bytes_event, turn_event, show_event, open_event, end_event, room_event, fault_event, limit_of, limit_event, secret_event, head_event, rarer_event, event_of_tokens, event_read, event_of}
 use Rattle.replay_script.specs.Spelling.{IsNumber, IsNamed, IsEvent}

@@ -1,9 +1,9 @@
 -- The event that a line of a script says.
-use Rattle.std.specs.Prelude.{ℕ, List, [], ◌∷◌, Bool, not, ◌&&◌, Option, Some, None, Result, Ok, Err, length, nat_le, codes, option_map, option_and_then, if◌then◌else◌}
+use Rattle.std.specs.Prelude.{ℕ, List, [], ◌∷◌, ◌&&◌, Option, Some, None, Result, Ok, Err, length, nat_le, codes, option_map, option_and_then, if◌then◌else◌}
 use Rattle.std.specs.Str.{bytes_eq}
 use Rattle.hs_line.specs.declared.limits.TheConstants.{MAX_LINE_LEN}
 use Rattle.hs_token.specs.declared.tokens.Token.{Token}
-use Rattle.hs_token.specs.declared.tokens.Token.TheVariants.{Null, Text}
+use Rattle.hs_token.specs.declared.tokens.Token.TheVariants.{Text}
 use Rattle.hs_token.specs.Number.{u32_of}
 use Rattle.hs_token.specs.Reading.{line_at}
 use Rattle.replay_script.specs.declared.events.Event.{Event}

@@ -40,7 +40,8 @@ fn are_conns(numbers: &[u32]) -> bool
     !numbers.is_empty() && are_distinct(numbers)
 }
 
-/// Whether none comes twice. Each number is compared with those behind it, up to the first that is there again.
+/// Whether none comes twice. Each number is compared with those behind it, up to the first that is there again: 32,640
+/// comparisons for 256 connections, of which no more can be open, and 82 million for the longest line.
 fn are_distinct(numbers: &[u32]) -> bool
     ensures { result ≡ are_distinct nat_eq numbers.now }
 {
