@@ -1,0 +1,92 @@
+//! Connections on tables.
+ghost use Rattle.std.specs.Prelude.{◌≡◌, ◌≤◌, ◌++◌, [], true, nat_eq, OnOk, IfOk};
+ghost use Rattle.row_types.specs.Valid.{IsValid, are_distinct};
+ghost use Rattle.table_rows.specs.Sizes.{most_bytes};
+ghost use Rattle.batch_answers.specs.Database.{empty_database};
+ghost use Rattle.replay_turns.specs.Session.{turn};
+
+use crate::connections::Connections;
+use crate::schema_copies::copy_schema;
+use hs_outside::Port;
+use line_pipeline::Secrets;
+use row_types::Schema;
+use std::alloc::{AllocError, Global};
+use std::marker::Model;
+use table_rows::{Tables, UndoList};
+
+/// Tables, and the connections whose lines they answer.
+#[derive(Drop)]
+pub struct Session {
+    schema: Schema,
+    tables: Tables,
+    undo: UndoList,
+    connections: Connections,
+}
+
+impl Model for Session {
+    ghost use Rattle.std.specs.Prelude.{◌≡◌};
+    ghost use Rattle.batch_answers.specs.Database.{database_of};
+    ghost use Rattle.replay_turns.specs.Session.{Session};
+
+    ghost Value = { Session };
+
+    ghost view = { λ s. record {
+      schema = s.connections.schema;
+      secrets = s.connections.secrets;
+      database = database_of s.tables;
+      conns = s.connections.conns;
+    } };
+
+    ghost invariant = { λ s. (s.schema ≡ s.connections.schema) × (s.schema ≡ s.tables.schema) };
+}
+
+impl Session {
+    /// No row and no connection.
+    pub fn new(
+        alloc: Global,
+        schema: &Schema,
+        secrets: Secrets,
+        bytes_max: u64,
+    ) -> Result<Session, AllocError>
+        requires schema { IsValid schema.now }
+        requires bytes { bytes_max ≤ most_bytes }
+        ensures { IfOk result (λ session. session ≡ record {
+          schema = schema.now;
+          secrets = secrets;
+          database = empty_database schema.now bytes_max;
+          conns = [];
+        }) }
+    {
+        let own = copy_schema(alloc, schema)?;
+        let other = copy_schema(alloc, schema)?;
+        Ok(Session {
+            schema: own,
+            tables: Tables::new(alloc, schema, bytes_max)?,
+            undo: UndoList::list_new(alloc),
+            connections: Connections::new(alloc, other, secrets)?,
+        })
+    }
+
+    /// One turn of the connections of these numbers. What it prints joins the text.
+    pub fn turn(
+        &mut self,
+        alloc: Global,
+        listed: &[u32],
+        text: &mut Vec<u8>,
+    ) -> Result<(), AllocError>
+        requires { are_distinct nat_eq listed.now ≡ true }
+        ensures session { OnOk result (self.new ≡ (turn listed.now self.old).1) }
+        ensures text { OnOk result (text.new.items ≡ text.old.items ++ (turn listed.now self.old).0) }
+    {
+        self.connections.receive_all(listed)?;
+        self.connections.answer(
+            alloc,
+            listed,
+            &mut self.tables,
+            &self.schema,
+            &mut self.undo,
+        )?;
+        self.undo.clear();
+        self.connections.send_all(listed, text)
+    }
+}
