@@ -1,5 +1,6 @@
 -- A table of which one connection was changed.
-use Rattle.std.proofs.Common.{◌≡◌, ℕ, Bool, true, false, List, [], ◌∷◌, Option, Some, None, option_map, is_some, refl, sym, ap, subst, ◌∙◌, ⊎_elim}
+use Rattle.std.proofs.Common.{◌≡◌, ℕ, Bool, true, false, ◌||◌, List, [], ◌∷◌, Option, Some, None, option_map, is_some, refl, sym, ap, subst, ◌∙◌, ⊎_elim}
+use Rattle.std.specs.Prelude.{IfSome}
 use Rattle.std.proofs.lemmas.Bool.{cases_Bool}
 use Rattle.hs_outside.specs.declared.connections.ConnId.{ConnId}
 use Rattle.row_types.specs.declared.tables.Schema.{Schema}
@@ -7,10 +8,12 @@ use Rattle.line_pipeline.specs.declared.conns.Conn.{Conn}
 use Rattle.line_pipeline.specs.declared.conns.Conn.TheVariants as conns
 use Rattle.line_pipeline.specs.declared.reasons.Reason.{Reason}
 use Rattle.line_pipeline.specs.Live.{Live, ending}
-use Rattle.line_pipeline.specs.Conn.{fed, ended, sent_off, closed, finished}
-use Rattle.line_pipeline.specs.Table.{Table, same_id, conn_at, is_held, changed}
+use Rattle.line_pipeline.specs.Output.{IsFront}
+use Rattle.line_pipeline.specs.Conn.{unsent_of, fed, ended, sent_off, closed, finished}
+use Rattle.line_pipeline.specs.Table.{Table, same_id, conn_at, is_held, changed, all_changed}
 use Rattle.line_pipeline.proofs.TableLemmas.{conn_at-changed, kept}
-use Rattle.replay_turns.specs.Entries.{conn_or_none, conn_of, ConnFits, Keeps}
+use Rattle.replay_turns.specs.declared.entries.Entry.{Entry}
+use Rattle.replay_turns.specs.Entries.{conn_or_none, conn_of, ConnFits, Keeps, KeepsLink}
 
 -- ---- the connection of this id
 
@@ -64,8 +67,8 @@ fits-closed reason schema (conns.Live l) fits = tt
 fits-closed reason schema (conns.Closed first) fits = tt
 
 finished-by : (schema : Schema) (l : Live) (e : Option Reason) → ending l ≡ e → ConnFits schema (conns.Live l) → ConnFits schema (finished (conns.Live l))
-finished-by schema l None is fits = subst (λ (conn : Conn). ConnFits schema conn) (sym (rw is refl)) fits
-finished-by schema l (Some reason) is fits = subst (λ (conn : Conn). ConnFits schema conn) (sym (rw is refl)) tt
+finished-by schema l None is fits = let same : finished (conns.Live l) ≡ conns.Live l = rw is refl in subst (λ (conn : Conn). ConnFits schema conn) (sym same) fits
+finished-by schema l (Some reason) is fits = let same : finished (conns.Live l) ≡ conns.Closed reason = rw is refl in subst (λ (conn : Conn). ConnFits schema conn) (sym same) tt
 
 pub fits-finished : KeepsFit finished
 fits-finished schema (conns.Live l) fits = finished-by schema l (ending l) refl fits
@@ -97,3 +100,36 @@ keeps-then id a b c first second =
       held = λ held. second.held (first.held held);
       fits = λ fits. subst (λ (s : Schema). ConnFits s (conn_of c.conns id)) schema (second.fits (subst (λ (s : Schema). ConnFits s (conn_of b.conns id)) (sym schema) (first.fits fits)));
     }
+
+-- ---- an entry of which only the link was changed
+
+same_id_of : (e f : Entry) → KeepsLink e f → f.id ≡ e.id
+same_id_of e f link = ap (λ (x : Entry). x.id) link.rest
+
+pub keeps_at : (e f : Entry) (old new : Table) → KeepsLink e f → Keeps f.id old new → Keeps e.id old new
+keeps_at e f old new link keeps = subst (λ (id : ConnId). Keeps id old new) (same_id_of e f link) keeps
+
+pub held_at : (e f : Entry) (old new : Table) → KeepsLink e f → Keeps e.id old new → is_held old.conns e.id ≡ true → is_held new.conns f.id ≡ true
+held_at e f old new link keeps held = subst (λ (id : ConnId). is_held new.conns id ≡ true) (sym (same_id_of e f link)) (keeps.held held)
+
+-- ---- a list of one id
+
+or_none : (b : Bool) → (b || false) ≡ b
+or_none true = refl
+or_none false = refl
+
+all_one : (f : Conn → Conn) (id : ConnId) (cs : List (ConnId × Conn)) → all_changed (id ∷ []) f cs ≡ changed id f cs
+all_one f id [] = refl
+all_one f id (c ∷ cs) = rw (or_none (same_id c.0 id), all_one f id cs) refl
+
+pub one_changed : (f : Conn → Conn) (id : ConnId) (old new : Table) → new ≡ record old { conns = all_changed (id ∷ []) f old.conns } → new ≡ record old { conns = changed id f old.conns }
+one_changed f id old new is = is ∙ ap (λ (cs : List (ConnId × Conn)). record old { conns = cs }) (all_one f id old.conns)
+
+-- ---- the bytes that wait
+
+front_by : (piece : List ℕ) (o : Option Conn) → is_some o ≡ true → IfSome o (λ conn. IsFront piece (unsent_of conn)) → IsFront piece (unsent_of (conn_or_none o))
+front_by piece None is front = cc
+front_by piece (Some conn) is front = front
+
+pub front-is : (piece : List ℕ) (cs : List (ConnId × Conn)) (id : ConnId) → is_held cs id ≡ true → IfSome (conn_at cs id) (λ conn. IsFront piece (unsent_of conn)) → IsFront piece (unsent_of (conn_of cs id))
+front-is piece cs id held front = front_by piece (conn_at cs id) held front

@@ -11,7 +11,7 @@ use Rattle.line_pipeline.specs.Table.{Table, same_id, is_listed, are_once, conn_
 use Rattle.line_pipeline.proofs.Ids.{same_id-refl, same_id-is, same_id-other, once-head, once-tail}
 use Rattle.replay_turns.specs.declared.entries.Entry.{Entry}
 use Rattle.replay_turns.specs.Linked.{Linked, linked_at, on}
-use Rattle.replay_turns.specs.Entries.{conn_or_none, conn_of, beside, linked, all_linked, place_from, ids_of, ConnFits, IsEntry, AreEntries, Keeps, KeepsLink}
+use Rattle.replay_turns.specs.Entries.{conn_or_none, conn_of, beside, linked, all_linked, place_from, id_at, ids_of, ConnFits, IsEntry, AreEntries, Keeps, KeepsLink}
 
 -- The first entry with this number is at this place.
 abbrev pub Found : ℕ → List Entry → ℕ → Type 0
@@ -30,10 +30,10 @@ found-from : (number start : ℕ) (es : List Entry) (at : ℕ) → place_from st
 found-from number start [] at is = cc
 found-from number start (e ∷ es) at is =
     ⊎_elim
-    (λ here. (0, (omega (arith, some_is start at (rw here refl ∙ is)), here)))
+    (λ here. (0, omega (arith, some_is start at (sym (rw here refl) ∙ is)), here))
     (λ other.
     let later = found-from number (start + 1) es at (rw other refl ∙ is) in
-    (suc later.0, (omega (arith, later.1), (other, later.2))))
+    (suc later.0, omega (arith, later.1), (other, later.2)))
     (cases_Bool (eqb e.number number))
 
 pub found : (number : ℕ) (es : List Entry) (at : ℕ) → place_from 0 number es ≡ Some at → Found number es at
@@ -177,3 +177,14 @@ module _ (old new : Table) (d f : Entry) where
       let under = below number es at is.1 in
       let other : same_id e.id id ≡ false = apart (ids_of es) id e.id (id-listed es at d under) (once-head e.id (ids_of es) once) in
       rw (is.0, linked-other id old new keeps e other, on-set number g es at is.1 (once-tail e.id (ids_of es) once) keeps same) refl
+
+-- ---- ids by numbers
+
+pub id_at-found : (number : ℕ) (es : List Entry) (at : ℕ) (d : Entry) → Found number es at → id_at number es ≡ Some (get_or es at d).id
+id_at-found number [] at d is = absurd is
+id_at-found number (e ∷ es) zero d is = rw is refl
+id_at-found number (e ∷ es) (suc at) d is = rw is.0 (id_at-found number es at d is.1)
+
+pub id_at-missing : (number : ℕ) (es : List Entry) → Missing number es → id_at number es ≡ None
+id_at-missing number [] none = refl
+id_at-missing number (e ∷ es) none = rw none.0 (id_at-missing number es none.1)

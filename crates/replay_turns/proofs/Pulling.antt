@@ -2,7 +2,7 @@
 use Rattle.std.proofs.Common.{◌≡◌, ℕ, ◌+◌, ◌-◌, ◌<◌, ◌≤◌, Bool, true, false, eqb, ◌&&◌, List, [], ◌∷◌, ◌++◌, length, take, drop, refl, sym, ap, subst, ◌∙◌, ⊎_elim, arith, length-take, length-drop}
 use Rattle.std.specs.Prelude.{if◌then◌else◌, nat_lt, min}
 use Rattle.std.proofs.lemmas.Bool.{cases_Bool, eqb-false, eq-eqb, ne_eqb, lt-ltb, le-ltb, ltb-true, ltb-false, and_right}
-use Rattle.std.proofs.lemmas.List.{drop_all}
+use Rattle.std.proofs.lemmas.List.{take_all, drop_all}
 use Rattle.line_pipeline.specs.declared.conns.Conn.{Conn}
 use Rattle.line_pipeline.specs.declared.reasons.Reason.TheVariants as reasons
 use Rattle.line_pipeline.specs.Conn.{room_of, fed, ended, closed}
@@ -52,8 +52,8 @@ received-end l some fails is = received-some l some fails ∙ rw is refl
 -- no byte is left
 with-none : (l : Linked) → l.left ≡ [] → with_bytes l ≡ l
 with-none l none =
-    let heard_is : heard l ≡ l.conn = ap (λ (bytes : List ℕ). fed (take (room_of l.conn) bytes) l.conn) none ∙ fed-nothing l.conn in
-    let left_is : drop (room_of l.conn) l.left ≡ l.left = ap (drop (room_of l.conn)) none ∙ sym none in
+    let heard_is : heard l ≡ l.conn = ap (λ (bytes : List ℕ). fed (take (room_of l.conn) bytes) l.conn) none ∙ ap (λ (bytes : List ℕ). fed bytes l.conn) (take_all (room_of l.conn) [] (omega arith)) ∙ fed-nothing l.conn in
+    let left_is : drop (room_of l.conn) l.left ≡ l.left = ap (drop (room_of l.conn)) none ∙ drop_all (room_of l.conn) [] (omega arith) ∙ sym none in
     ap (λ (conn : Conn). record l { conn = conn; left = drop (room_of l.conn) l.left }) heard_is
     ∙ ap (λ (bytes : List ℕ). record l { left = bytes }) left_is
 
@@ -63,7 +63,7 @@ room-with l =
     room-fed (take (room_of l.conn) l.left) l.conn ∙ ap (λ (n : ℕ). room_of l.conn - n) (length-take (room_of l.conn) l.left)
 
 some_room : (l : Linked) → eqb (room_of l.conn) 0 ≡ false → 0 < room_of l.conn
-some_room l some = eqb-false (room_of l.conn) 0 some
+some_room l some = omega (arith, eqb-false (room_of l.conn) 0 some)
 
 full-after : (l : Linked) → room_of l.conn ≤ length l.left → eqb (room_of (with_bytes l).conn) 0 ≡ true
 full-after l much = let room = room-with l in eq-eqb (room_of (with_bytes l).conn) 0 (omega (arith, room))

@@ -55,11 +55,11 @@ items_are schema cs id = items_by schema cs id (conn_at cs id) refl
 -- ---- items of which the first are of one connection
 
 first_is : (item : Item) (runs : List (ConnId × List ItemKind)) → (kinds : List ItemKind) × (rest : List (ConnId × List ItemKind)) × (with_item item runs ≡ (item.conn, kinds) ∷ rest)
-first_is item [] = (item.kind ∷ [], ([], refl))
+first_is item [] = (item.kind ∷ [], [], refl)
 first_is item (run ∷ runs) =
     ⊎_elim
-    (λ same. (item.kind ∷ run.1, (runs, rw same refl)))
-    (λ other. (item.kind ∷ [], (run ∷ runs, rw other refl)))
+    (λ same. (item.kind ∷ run.1, runs, rw same refl))
+    (λ other. (item.kind ∷ [], run ∷ runs, rw other refl))
     (cases_Bool (same_id item.conn run.0))
 
 alone : (item : Item) (items : List Item) → is_listed (conns_in items) item.conn ≡ false → with_item item (runs_of items) ≡ (item.conn, item.kind ∷ []) ∷ runs_of items
@@ -67,7 +67,7 @@ alone item [] none = refl
 alone item (next ∷ items) none =
     let f = first_is next (runs_of items) in
     let apart : same_id item.conn next.conn ≡ false = (or_parts (same_id item.conn next.conn) (is_listed (conns_in items) item.conn) none).0 in
-    rw (f.2.1, apart) refl
+    rw (f.2, apart) refl
 
 pub run_group : (id : ConnId) (kinds : List ItemKind) (items : List Item) → is_listed (conns_in items) id ≡ false → runs_of (map (item_of id) kinds ++ items) ≡ with_group id kinds (runs_of items)
 run_group id [] items none = refl

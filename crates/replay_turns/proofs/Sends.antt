@@ -3,7 +3,7 @@ use Rattle.std.proofs.Common.{◌≡◌, ℕ, zero, suc, ◌+◌, ◌-◌, ◌<�
 use Rattle.std.specs.Prelude.{if◌then◌else◌, nat_lt, min}
 use Rattle.std.proofs.Math.Seq.{take-add}
 use Rattle.std.proofs.lemmas.Bool.{cases_Bool, lt-ltb}
-use Rattle.std.proofs.lemmas.List.{drop-drop, append-nil, take-append-le}
+use Rattle.std.proofs.lemmas.List.{drop-drop, drop_all, append-nil}
 use Rattle.hs_outside.specs.MemoryLink.{room_for}
 use Rattle.line_pipeline.specs.declared.conns.Conn.{Conn}
 use Rattle.line_pipeline.specs.declared.conns.Conn.TheVariants as conns
@@ -18,9 +18,7 @@ use Rattle.replay_turns.specs.Steps.{SendStep}
 
 pub unsent-off : (count : ℕ) (conn : Conn) → unsent_of (sent_off count conn) ≡ drop count (unsent_of conn)
 unsent-off count (conns.Live l) = refl
-unsent-off count (conns.Closed reason) = drop-none count where
-  drop-none : (n : ℕ) → [] ≡ drop n []
-  drop-none n = refl
+unsent-off count (conns.Closed reason) = sym (drop_all count [] (omega arith))
 
 off-twice : (m n : ℕ) (conn : Conn) → sent_off m (sent_off n conn) ≡ sent_off (n + m) conn
 off-twice m n (conns.Live l) = ap (λ (bytes : List ℕ). conns.Live (record l { unsent = bytes })) (drop-drop m n l.unsent)
@@ -97,11 +95,7 @@ room-back room None count is = rw is refl
 room-back room (Some n) count is = rw is (ap Some (omega arith))
 
 take-two : (bytes : List ℕ) (m n : ℕ) → take m bytes ++ take n (drop m bytes) ≡ take (m + n) bytes
-take-two [] m n = take-nil m n where
-  take-nil : (m n : ℕ) → take m [] ++ take n (drop m []) ≡ take (m + n) []
-  take-nil m n = refl
-take-two (b ∷ bs) zero n = refl
-take-two (b ∷ bs) (suc m) n = ap (λ (t : List ℕ). b ∷ t) (take-two bs m n)
+take-two bytes m n = sym (take-add m n bytes)
 
 pub step-took : (l : Linked) (count : ℕ) (sent : List ℕ) → l.fails_next ≡ false → 0 < count → count ≤ length (unsent_of l.conn) → (later : Option ℕ) → l.room ≡ option_map (λ n. n + count) later →
     SendStep true l (record l { conn = sent_off count l.conn; room = later; fails_next = false }) sent (sent ++ take count (unsent_of l.conn))

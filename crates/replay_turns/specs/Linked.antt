@@ -39,6 +39,11 @@ linked_at number (l ∷ ls) = if l.number == number then Some l else linked_at n
 abbrev pub is_linked : ℕ → List Linked → Bool
 is_linked number ls = is_some (linked_at number ls)
 
+-- Whether there is one whose peer has ended.
+abbrev pub has_ended : ℕ → List Linked → Bool
+has_ended number [] = false
+has_ended number (l ∷ ls) = if l.number == number then l.peer_ended else has_ended number ls
+
 -- The connections with that of this number changed.
 abbrev pub on : ℕ → (Linked → Linked) → List Linked → List Linked
 on number change [] = []

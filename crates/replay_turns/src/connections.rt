@@ -1,8 +1,8 @@
 //! Connections and their links.
-ghost use Rattle.std.specs.Prelude.{◌≡◌, ◌<◌, [], ◌∷◌, ◌++◌, true, false, length, nat_eq, option_map, ◌↔◌, IsTrue, IsSomeAnd, OnOk, IfOk};
+ghost use Rattle.std.specs.Prelude.{◌≡◌, ◌<◌, [], ◌∷◌, ◌++◌, true, length, nat_eq, get_or, OnOk, IfOk};
 ghost use Rattle.row_types.specs.Valid.{IsValid, are_distinct};
 ghost use Rattle.batch_answers.specs.Database.{database_of};
-ghost use Rattle.replay_turns.specs.Linked.{Linked, opened, on, linked_at, peer_sent, peer_ended, with_room, failing_next};
+ghost use Rattle.replay_turns.specs.Linked.{opened, on, linked_at};
 ghost use Rattle.replay_turns.specs.Receiving.{received, all_received};
 ghost use Rattle.replay_turns.specs.Replying.{all_replied};
 ghost use Rattle.replay_turns.specs.Sending.{on_sending};
@@ -24,9 +24,9 @@ use table_rows::{Tables, UndoList};
 /// Connections, each beside its link, and a buffer that is used again and again.
 #[derive(Drop)]
 pub struct Connections {
-    table: ConnTable,
-    entries: Vec<Entry>,
-    buffer: Vec<u8>,
+    pub(crate) table: ConnTable,
+    pub(crate) entries: Vec<Entry>,
+    pub(crate) buffer: Vec<u8>,
 }
 
 impl Model for Connections {
@@ -148,6 +148,7 @@ impl Connections {
         Ok(())
     }
 
+    /// The connection of this number is sent what waits for it.
     fn send(&mut self, number: u32, text: &mut Vec<u8>) -> Result<(), AllocError>
         ensures conns { OnOk result (self.new ≡ record self.old {
           conns = on_sending number self.old.conns;
@@ -163,97 +164,12 @@ impl Connections {
         let before = entry.link.sent().len();
         pass(&mut self.table, entry)?;
         push_line(text, b"sent", number, &entry.link.sent()[before..])?;
-        self.let_go(at, text)
-    }
-
-    /// Lets a connection go, if it is closed.
-    fn let_go(&mut self, at: usize, text: &mut Vec<u8>) -> Result<(), AllocError> {
-        let id = self.entries[at].id;
+        let id = entry.id;
         if let ConnState::Closed(reason) = self.table.state(id) {
-            push_line(
-                text,
-                b"closed",
-                self.entries[at].number,
-                reason_word(reason),
-            )?;
+            push_line(text, b"closed", number, reason_word(reason))?;
             self.table.remove(id);
             self.entries.remove(at);
         }
         Ok(())
-    }
-}
-
-impl Connections {
-    /// How many there are.
-    pub fn count(&self) -> usize
-        ensures { result ≡ length self.now.conns }
-    {
-        self.entries.len()
-    }
-
-    /// The port that a connection came to.
-    pub fn port_of(&self, number: u32) -> Option<Port>
-        ensures { result ≡ option_map (λ (l : Linked). l.port) (linked_at number self.now.conns) }
-    {
-        let at = place_of(&self.entries, number)?;
-        Some(self.entries[at].port)
-    }
-
-    /// Whether there is a connection of this number whose peer has ended.
-    pub fn has_ended(&self, number: u32) -> bool
-        ensures { IsTrue result ↔ IsSomeAnd (linked_at number self.now.conns) (λ (l : Linked). l.peer_ended ≡ true) }
-    {
-        match place_of(&self.entries, number) {
-            Some(at) => self.entries[at].has_ended,
-            None => false,
-        }
-    }
-
-    /// The peer has sent a piece.
-    pub fn peer_bytes(&mut self, number: u32, piece: &[u8]) -> Result<(), AllocError>
-        ensures sent { OnOk result (self.new ≡ record self.old {
-          conns = on number (peer_sent piece.now) self.old.conns;
-        }) }
-        ensures schema { self.new.schema ≡ self.old.schema }
-    {
-        let Some(at) = place_of(&self.entries, number) else {
-            return Ok(());
-        };
-        let entry = &mut self.entries[at];
-        entry.link.peer_bytes(piece)
-    }
-
-    /// The peer has ended.
-    pub fn peer_end(&mut self, number: u32)
-        ensures { self.new ≡ record self.old { conns = on number peer_ended self.old.conns } }
-    {
-        let Some(at) = place_of(&self.entries, number) else {
-            return;
-        };
-        let entry = &mut self.entries[at];
-        entry.link.peer_end();
-        entry.has_ended = true;
-    }
-
-    /// From now on the link takes so many more bytes.
-    pub fn room(&mut self, number: u32, count: u64)
-        ensures { self.new ≡ record self.old { conns = on number (with_room count) self.old.conns } }
-    {
-        let Some(at) = place_of(&self.entries, number) else {
-            return;
-        };
-        let entry = &mut self.entries[at];
-        entry.link.room(count);
-    }
-
-    /// The link's next call fails.
-    pub fn fail_next(&mut self, number: u32)
-        ensures { self.new ≡ record self.old { conns = on number failing_next self.old.conns } }
-    {
-        let Some(at) = place_of(&self.entries, number) else {
-            return;
-        };
-        let entry = &mut self.entries[at];
-        entry.link.fail_next();
     }
 }

@@ -46,11 +46,8 @@ pub fn ids_at(
 fn push_id(ids: &mut Vec<ConnId>, entries: &[Entry], number: u32) -> Result<(), AllocError>
     ensures { OnOk result (ids.new.items ≡ ids.old.items ++ option_to_list (id_at number entries.now)) }
 {
-    for entry in entries {
-        if entry.number == number {
-            ids.push(entry.id)?;
-            return Ok(());
-        }
+    match place_of(entries, number) {
+        Some(at) => Ok(ids.push(entries[at].id)?),
+        None => Ok(()),
     }
-    Ok(())
 }

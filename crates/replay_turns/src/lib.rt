@@ -12,8 +12,12 @@ mod connections;
 mod entries;
 mod lines;
 mod receiving;
+mod rows;
+mod sayings;
 mod schema_copies;
 mod sending;
 mod sessions;
+#[cfg(test)]
+mod tests;
 
 pub use sessions::Session;
