@@ -1,0 +1,9 @@
+pub mod Lookups
+pub mod Rooms
+pub mod Pulling
+pub mod Sends
+pub mod Places
+pub mod Fitting
+pub mod Runs
+pub mod Settling
+pub mod Calls
