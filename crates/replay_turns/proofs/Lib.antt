@@ -6,3 +6,4 @@ pub mod Places
 pub mod Fitting
 pub mod Runs
 pub mod Settling
+mod Shows

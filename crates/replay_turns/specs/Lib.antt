@@ -7,3 +7,5 @@ pub mod Session
 pub mod Entries
 pub mod Steps
 pub mod Connected
+pub mod Shown
+pub mod Examples

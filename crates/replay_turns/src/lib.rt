@@ -15,5 +15,7 @@ mod receiving;
 mod schema_copies;
 mod sending;
 mod sessions;
+mod showing;
 
 pub use sessions::Session;
+pub use showing::table_at;

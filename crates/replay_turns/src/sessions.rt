@@ -4,9 +4,11 @@ ghost use Rattle.row_types.specs.Valid.{IsValid, are_distinct};
 ghost use Rattle.table_rows.specs.Sizes.{most_bytes};
 ghost use Rattle.batch_answers.specs.Database.{empty_database};
 ghost use Rattle.replay_turns.specs.Session.{turn};
+ghost use Rattle.replay_turns.specs.Shown.{table_at, rows_shown};
 
 use crate::connections::Connections;
 use crate::schema_copies::copy_schema;
+use crate::showing::{push_rows, table_at};
 use hs_outside::Port;
 use line_pipeline::Secrets;
 use row_types::Schema;
@@ -88,5 +90,17 @@ impl Session {
         )?;
         self.undo.clear();
         self.connections.send_all(listed, text)
+    }
+
+    /// The rows of the table with these names, that of its database first, in the order of its primary key: a line each
+    /// joins the text. None does, where no table has these names.
+    pub fn show(&self, db: &[u8], name: &[u8], text: &mut Vec<u8>) -> Result<(), AllocError>
+        ensures { OnOk result (text.new.items ≡ text.old.items
+            ++ rows_shown (table_at self.now.schema db.now name.now) self.now.database) }
+    {
+        match table_at(self.tables.schema(), db, name) {
+            None => Ok(()),
+            Some(table) => push_rows(&self.tables, table, text),
+        }
     }
 }
