@@ -7,3 +7,4 @@ pub mod Fitting
 pub mod Runs
 pub mod Settling
 mod Shows
+mod Plays

@@ -13,20 +13,15 @@ use table_rows::Tables;
 fn rows_are_shown_in_the_order_of_the_primary_key(rt: HostRuntime) -> Result<(), Fail> {
     let alloc = rt.alloc();
     let mut tables = new_tables(alloc)?;
+    // This is the order of neither the texts, nor the printed numbers, nor the rows' coming.
     for (id, v, text) in [
-        // NULL is the byte 0x00 alone, and a text begins with none.
         (3, None, b"row\t3\t\x00\n".as_slice()),
-        // By its text this row would come last, by its number as a text first of all.
-        (-12, Some(b"b".as_slice()), b"row\t-12\tb\nrow\t3\t\x00\n"),
+        (-30, Some(b"b".as_slice()), b"row\t-30\tb\nrow\t3\t\x00\n"),
+        (-2, Some(b""), b"row\t-30\tb\nrow\t-2\t\nrow\t3\t\x00\n"),
         (
-            -5,
-            Some(b""),
-            b"row\t-12\tb\nrow\t-5\t\nrow\t3\t\x00\n",
-        ),
-        (
-            0,
+            12,
             Some(b"a\tb"),
-            b"row\t-12\tb\nrow\t-5\t\nrow\t0\ta\x01\x49b\nrow\t3\t\x00\n",
+            b"row\t-30\tb\nrow\t-2\t\nrow\t3\t\x00\nrow\t12\ta\x01\x49b\n",
         ),
     ] {
         let new = row(alloc, id, v)?;
