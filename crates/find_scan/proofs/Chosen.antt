@@ -20,7 +20,7 @@ use Rattle.table_rows.specs.declared.slot_ref.SlotRef.{SlotRef}
 use Rattle.table_rows.specs.Rows.{State, entries_of}
 use Rattle.table_rows.specs.Slots.{is_in, is_live_in}
 use Rattle.table_rows.specs.Walks.{walk_of}
-use Rattle.table_rows.proofs.Tests.{any_member}
+use Rattle.table_rows.proofs.BySlot.{live_member}
 use Rattle.find_scan.specs.Select.{directed, columns_for, matching, found, keys_of, by_step, kept, selected, slots_of}
 
 module _ (P : Entry → Type 0) where
@@ -60,7 +60,7 @@ pub selected_live : (state : State) (spec : FindSpec) → All (λ (slot : SlotRe
 selected_live state spec =
     let entries = entries_of state spec.table in
     let live = λ (e : Entry). is_live_in state spec.table e.1 ≡ true in
-    let in_table : AllByRecursion live entries = each_member live entries (λ e inside. any_member (is_in e.1) entries e inside (eq-eqb e.1 e.1 refl)) in
+    let in_table : AllByRecursion live entries = each_member live entries (live_member entries) in
     All-from_recursion (λ (slot : SlotRef). is_live_in state spec.table slot.0 ≡ true) (slots_of (selected state spec))
     (all_mapped (λ (slot : SlotRef). is_live_in state spec.table slot.0 ≡ true) (λ (e : Entry). record { 0 = e.1 }) (selected state spec)
     (all_selected live state spec (all_in_order (entry_cmp (columns_for state spec)) live entries in_table)))

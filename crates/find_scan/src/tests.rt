@@ -206,38 +206,23 @@ fn a_reply_of_no_row_has_the_number_of_columns(rt: HostRuntime) -> Result<(), Fa
 }
 
 #[test]
-fn a_reply_beyond_the_limit_leaves_the_bytes(rt: HostRuntime) -> Result<(), Fail> {
-    let alloc = rt.alloc();
-    let tables = long_rows(alloc, 2100)?;
-    for (limit, rendered, len) in [
-        (2000, Rendered::Fits, 16_010_897),
-        (2100, Rendered::TooBig, 0),
-    ] {
-        let spec = find(alloc, 0, FindOp::GreaterEqual, &[1], (limit, 0))?;
-        let mut out = Vec::from_slice(alloc, b"so far\n")?;
-        assert!(rt; show(alloc, &tables, &spec, &[0, 1], &mut out)? == rendered);
-        assert_eq!(rt; out.len(), len + 7);
-        assert!(rt; out.as_slice().starts_with(b"so far\n"));
-    }
-    Ok(())
-}
-
-#[test]
-fn the_last_byte_of_a_reply_is_not_too_many(rt: HostRuntime) -> Result<(), Fail> {
+fn a_reply_of_one_byte_too_many_leaves_the_bytes(rt: HostRuntime) -> Result<(), Fail> {
     let alloc = rt.alloc();
     // Behind 2,096 rows of 8,000 bytes one of 7,115 is the last that fits.
     let mut tables = long_rows(alloc, 2096)?;
-    put_long(alloc, &mut tables, 2097, 7115)?;
-    put_long(alloc, &mut tables, 2098, 7116)?;
+    put_long(alloc, &mut tables, 2097, 7116)?;
+    put_long(alloc, &mut tables, 2098, 7115)?;
     for (without, rendered, len) in [
-        (2098, Rendered::Fits, 16_777_216),
-        (2097, Rendered::TooBig, 0),
+        (2097, Rendered::Fits, 16_777_216),
+        (2098, Rendered::TooBig, 0),
+        (2099, Rendered::TooBig, 0),
     ] {
         let spec = find(alloc, 0, FindOp::GreaterEqual, &[1], (u32::MAX, 0))?;
         let spec = filtered(spec, false, FilterOp::NotEqual, true, without)?;
-        let mut out = Vec::new(alloc);
+        let mut out = Vec::from_slice(alloc, b"so far\n")?;
         assert!(rt; show(alloc, &tables, &spec, &[1], &mut out)? == rendered);
-        assert_eq!(rt; out.len(), len);
+        assert_eq!(rt; out.len(), 7 + len);
+        assert!(rt; out.as_slice().starts_with(b"so far\n"));
     }
     Ok(())
 }

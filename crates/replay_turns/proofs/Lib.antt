@@ -7,3 +7,5 @@ pub mod Fitting
 pub mod Runs
 pub mod Settling
 pub mod Calls
+mod Shows
+mod Plays

@@ -9,3 +9,4 @@ pub mod Steps
 pub mod Connected
 pub mod Sayings
 pub mod Shown
+pub mod Examples

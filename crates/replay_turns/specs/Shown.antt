@@ -1,31 +1,33 @@
--- The rows of a table, printed.
-use Rattle.std.specs.Prelude.{ℕ, ◌+◌, ◌&&◌, List, [], ◌∷◌, ◌++◌, map, codes, Option, Some, None, if◌then◌else◌}
-use Rattle.std.specs.Fmt.{signed_decimal}
+-- What is printed to show a table.
+use Rattle.std.specs.Prelude.{ℕ, ◌+◌, ◌&&◌, List, [], ◌∷◌, ◌++◌, map, codes, get_or, Option, Some, None, if◌then◌else◌}
 use Rattle.std.specs.Str.{bytes_eq}
-use Rattle.hs_token.specs.declared.tokens.Token.{Token}
-use Rattle.hs_token.specs.declared.tokens.Token.TheVariants as tokens
-use Rattle.hs_token.specs.Spelling.{line_spelled}
 use Rattle.row_types.specs.declared.values.Value.{Value}
-use Rattle.row_types.specs.declared.values.Value.TheVariants as values
 use Rattle.row_types.specs.declared.tables.TableDef.{TableDef}
+use Rattle.row_types.specs.declared.tables.Schema.{Schema}
+use Rattle.hs_token.specs.Spelling.{behind_tabs}
+use Rattle.find_scan.specs.Show.{cell_token}
+use Rattle.batch_answers.specs.Database.{Database}
 
--- The number of the table of this name in this database, where the first has this number.
-abbrev pub table_named : ℕ → List TableDef → List ℕ → List ℕ → Option ℕ
-table_named number [] db name = None
-table_named number (t ∷ ts) db name =
-    if bytes_eq t.db db && bytes_eq t.name name then Some number else table_named (number + 1) ts db name
+-- The number of the first table with these two names, where the list begins with this number.
+abbrev pub table_from : ℕ → List TableDef → List ℕ → List ℕ → Option ℕ
+table_from n [] db name = None
+table_from n (t ∷ ts) db name =
+    if bytes_eq t.db db && bytes_eq t.name name then Some n else table_from (n + 1) ts db name
 
--- The token of a value: an integer in its printed form, a text as it is.
-abbrev pub value_token : Value → Token
-value_token values.Null = tokens.Null
-value_token (values.Int n) = tokens.Text (signed_decimal n)
-value_token (values.Text t) = tokens.Text t
+-- The same of all tables of a schema: that of the database, then that of the table.
+abbrev pub table_at : Schema → List ℕ → List ℕ → Option ℕ
+table_at schema db name = table_from 0 schema.tables db name
 
--- The line `row` and the values.
-abbrev pub row_shown : List Value → List ℕ
-row_shown row = line_spelled (tokens.Text (codes "row") ∷ map value_token row) ++ 10 ∷ []
+-- The line `row` with the values of a row, each as a token.
+abbrev pub row_line : List Value → List ℕ
+row_line row = codes "row" ++ behind_tabs (map cell_token row) ++ 10 ∷ []
 
--- A line of each row.
-abbrev pub all_shown : List (List Value) → List ℕ
-all_shown [] = []
-all_shown (row ∷ rows) = row_shown row ++ all_shown rows
+-- A line for each row.
+abbrev pub rows_lines : List (List Value) → List ℕ
+rows_lines [] = []
+rows_lines (row ∷ rows) = row_line row ++ rows_lines rows
+
+-- A line for each row of a table, in the order of its primary key. Nothing, where there is no such table.
+abbrev pub rows_shown : Option ℕ → Database → List ℕ
+rows_shown None db = []
+rows_shown (Some table) db = rows_lines (get_or db.tables table [])

@@ -1,16 +1,16 @@
 //! Connections on tables.
-ghost use Rattle.std.specs.Prelude.{◌≡◌, ◌<◌, ◌≤◌, ◌∷◌, ◌++◌, [], true, length, nat_eq, get_or, option_map, OnOk, IfOk};
+ghost use Rattle.std.specs.Prelude.{◌≡◌, ◌≤◌, ◌∷◌, ◌++◌, [], true, length, nat_eq, option_map, OnOk, IfOk};
 ghost use Rattle.row_types.specs.Valid.{IsValid, are_distinct};
 ghost use Rattle.table_rows.specs.Sizes.{most_bytes};
 ghost use Rattle.batch_answers.specs.Database.{empty_database};
 ghost use Rattle.replay_turns.specs.Linked.{Linked, opened, on, linked_at, has_ended, peer_sent, peer_ended, with_room, failing_next};
-ghost use Rattle.replay_turns.specs.Shown.{table_named, all_shown};
 ghost use Rattle.replay_turns.specs.Session.{turn};
+ghost use Rattle.replay_turns.specs.Shown.{table_at, rows_shown};
 
 use crate::connections::Connections;
-use crate::rows::{show_rows, table_of};
 use crate::sayings::Saying;
 use crate::schema_copies::copy_schema;
+use crate::showing::{push_rows, table_at};
 use hs_outside::Port;
 use line_pipeline::Secrets;
 use row_types::Schema;
@@ -154,19 +154,15 @@ impl Session {
         self.connections.say(number, Saying::FailsNext);
     }
 
-    /// The number of the table with these names.
-    pub fn table_of(&self, db: &[u8], name: &[u8]) -> Option<u32>
-        ensures { result ≡ table_named 0 self.now.schema.tables db.now name.now }
+    /// The rows of the table with these names, that of its database first, in the order of its primary key: a line each
+    /// joins the text. None does, where no table has these names.
+    pub fn show(&self, db: &[u8], name: &[u8], text: &mut Vec<u8>) -> Result<(), AllocError>
+        ensures { OnOk result (text.new.items ≡ text.old.items
+            ++ rows_shown (table_at self.now.schema db.now name.now) self.now.database) }
     {
-        table_of(self.schema.tables.as_slice(), db, name)
-    }
-
-    /// Appends a line of each row of a table, in the order of the primary key.
-    pub fn show(&self, table: u32, text: &mut Vec<u8>) -> Result<(), AllocError>
-        requires { table < length self.now.schema.tables }
-        ensures { OnOk result (text.new.items
-            ≡ text.old.items ++ all_shown (get_or self.now.database.tables table [])) }
-    {
-        show_rows(&self.tables, table, text)
+        match table_at(self.tables.schema(), db, name) {
+            None => Ok(()),
+            Some(table) => push_rows(&self.tables, table, text),
+        }
     }
 }

@@ -139,10 +139,7 @@ pub(super) fn put_long(
     requires { IsPlay tables.old }
     ensures { IfOk result (λ put. IsPlay tables.new) }
 {
-    let mut long = Vec::new(alloc);
-    for _ in 0..len {
-        long.push(b'x')?;
-    }
+    let long = vec![in alloc; b'x'; len as usize]?;
     let v = Value::Text(ByteText::of_vec(long));
     let column = column(alloc, b"v", Kind::Bytes(8000), true)?;
     if fits(&column, &v) != Fit::Fine {

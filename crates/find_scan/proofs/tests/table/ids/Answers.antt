@@ -4,5 +4,5 @@ use Rattle.find_filter.specs.Fits.{FindFits}
 use Rattle.find_scan.proofs.Plays.{find_fits}
 use Rattle.find_scan.proofs.tests.table.ids.Goals as goal
 
-pub select-slots-requires : goal.select-slots-requires
-select-slots-requires c = subst (λ (s : Schema). FindFits s c.args.spec.now) (sym c.requires.play.schema) (find_fits c.args.spec.now c.requires.find)
+pub select-requires : goal.select-requires
+select-requires c = subst (λ (s : Schema). FindFits s c.args.spec.now) (sym c.requires.play.schema) (find_fits c.args.spec.now c.requires.find)

@@ -6,8 +6,8 @@ use Rattle.table_rows.specs.Rows.{columns_of}
 use Rattle.find_scan.proofs.Plays.{find_fits, play_columns}
 use Rattle.find_scan.proofs.tests.table.show.Goals as goal
 
-pub select-slots-requires : goal.select-slots-requires
-select-slots-requires c = subst (λ (s : Schema). FindFits s c.args.spec.now) (sym c.requires.play.schema) (find_fits c.args.spec.now c.requires.find)
+pub select-requires : goal.select-requires
+select-requires c = subst (λ (s : Schema). FindFits s c.args.spec.now) (sym c.requires.play.schema) (find_fits c.args.spec.now c.requires.find)
 
 pub render-requires-clause-table : goal.render-requires-clause-table
 render-requires-clause-table c = omega (arith, c.requires.find.table, c.requires.play.tables)
