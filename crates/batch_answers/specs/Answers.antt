@@ -1,18 +1,100 @@
 -- What items are answered, and the rows that they leave.
-use Rattle.std.specs.Prelude.{ℕ, List, [], ◌∷◌, ◌++◌}
-use Rattle.hs_token.specs.Spelling.{reply_line}
+use Rattle.std.specs.Prelude.{ℕ, List, [], ◌∷◌, ◌++◌, length, get_or, set, Option, Some, None, Result, Ok, Err, if◌then◌else◌}
+use Rattle.std.specs.declared.cmp.Ordering.{Ordering}
+use Rattle.index_tree.specs.Ordered.{with_item}
+use Rattle.row_types.specs.declared.values.Value.{Value}
+use Rattle.row_types.specs.Order.{key_cmp}
+use Rattle.row_store.specs.Entries.{Entry, cells}
+use Rattle.table_rows.specs.Rows.{State, columns_of, indexes_of}
+use Rattle.table_rows.specs.Indexes.{primary_of}
+use Rattle.find_filter.specs.declared.finds.FindSpec.{FindSpec}
+use Rattle.find_filter.specs.declared.mods.ModSpec.{ModSpec}
+use Rattle.open_index.specs.declared.codes.Code.{Code}
+use Rattle.open_index.specs.Code.{number}
+use Rattle.open_index.specs.declared.requests.InsertSpec.{InsertSpec}
 use Rattle.open_index.specs.declared.requests.Request.{Request}
+use Rattle.open_index.specs.declared.requests.Request.TheVariants.{Find, Modify, Insert}
+use Rattle.find_scan.specs.Select.{selected, slots_of}
+use Rattle.find_scan.specs.Show.{find_reply}
+use Rattle.find_scan.specs.Rendering.{rendered}
+use Rattle.find_scan.specs.declared.replies.Rendered.{Rendered}
+use Rattle.find_scan.specs.declared.replies.Rendered.TheVariants.{Fits, TooBig}
+use Rattle.row_insert.specs.Refusal.{refusal_of}
+use Rattle.row_insert.specs.Insert.{new_row}
+use Rattle.find_modify.specs.Change.{changed_all}
 use Rattle.line_pipeline.specs.declared.batches.ItemKind.{ItemKind}
 use Rattle.line_pipeline.specs.declared.batches.ItemKind.TheVariants as kinds
-use Rattle.batch_answers.specs.Database.{Database}
+use Rattle.batch_answers.specs.Database.{Database, database_of, placed_in, rows_alone}
+use Rattle.batch_answers.specs.Replies.{code_reply, count_reply, big}
 
--- TODO: a stand-in for what a request is answered
+-- The rows that a find selects, each with its place.
+abbrev pub chosen : Database → FindSpec → List Entry
+chosen db find = selected (placed_in db) find
+
+-- The reply that shows them.
+abbrev pub rows_reply : Database → FindSpec → List ℕ
+rows_reply db find = find_reply find.columns (rows_alone (chosen db find))
+
+-- What follows where a reply fits. One that is too big is refused, and the rows stay.
+abbrev pub unless_big : Rendered → Database → List ℕ × Database → List ℕ × Database
+unless_big Fits db answer = answer
+unless_big TooBig db answer = (code_reply big, db)
+
+-- A find shows its rows, and they stay.
+abbrev pub find_answered : Database → FindSpec → List ℕ × Database
+find_answered db find = unless_big (rendered (rows_reply db find)) db (rows_reply db find, db)
+
+-- The tables once the chosen rows are changed, one after the other, each under the place that it had at first; or
+-- why one of them is refused.
+abbrev pub changed : Database → FindSpec → ModSpec → Result State Code
+changed db find change =
+    changed_all find.table find.columns change (slots_of (chosen db find)) (placed_in db)
+
+-- A change is answered by this reply, or by the code of the first refused row, and then the rows are as before.
+abbrev pub unless_refused : Database → List ℕ → Result State Code → List ℕ × Database
+unless_refused db reply (Ok state) = (reply, database_of state)
+unless_refused db reply (Err code) = (code_reply (number code), db)
+
+-- A change shows the rows from before it, if that is asked for and they fit, and else tells how many they are.
+abbrev pub change_answered : Database → FindSpec → ModSpec → List ℕ × Database
+change_answered db find change =
+    if change.show
+    then unless_big (rendered (rows_reply db find)) db (unless_refused db (rows_reply db find) (changed db find change))
+    else unless_refused db (count_reply (length (chosen db find))) (changed db find change)
+
+-- How rows compare by their cells at some columns.
+abbrev pub row_cmp : List ℕ → List Value → List Value → Ordering
+row_cmp columns a b = key_cmp (cells columns a) (cells columns b)
+
+-- A table's rows with one more, at its place by the primary key.
+abbrev pub with_new : Database → ℕ → List Value → Database
+with_new db table row = record {
+  schema = db.schema;
+  bytes_max = db.bytes_max;
+  tables = set db.tables table
+      (with_item (row_cmp (primary_of (indexes_of (placed_in db) table))) row (get_or db.tables table []));
+}
+
+-- A row that isn't refused comes to its table.
+abbrev pub unless_barred : Database → ℕ → List Value → Option Code → List ℕ × Database
+unless_barred db table row None = (code_reply 0, with_new db table row)
+unless_barred db table row (Some code) = (code_reply (number code), db)
+
+-- An insert puts a row with the values that it names and presets for all others.
+abbrev pub insert_answered : Database → InsertSpec → List ℕ × Database
+insert_answered db spec =
+    let row = new_row (columns_of (placed_in db) spec.table) spec in
+    unless_barred db spec.table row (refusal_of (placed_in db) spec.table row None)
+
+-- What a request is answered, and the rows that it leaves.
 abbrev pub request_answered : Database → Request → List ℕ × Database
-request_answered db request = ([], db)
+request_answered db (Find find) = find_answered db find
+request_answered db (Modify find change) = change_answered db find change
+request_answered db (Insert spec) = insert_answered db spec
 
--- What an item is answered, and the rows that it leaves.
+-- What an item is answered, and the rows that it leaves. One that asks nothing of the tables is answered by its code.
 abbrev pub answered : Database → ItemKind → List ℕ × Database
-answered db (kinds.Ready code) = (reply_line code 1 [], db)
+answered db (kinds.Ready code) = (code_reply code, db)
 answered db (kinds.Hs request) = request_answered db request
 
 -- What items are answered, each on the rows that the one before it left.

@@ -1,3 +1,6 @@
 pub mod Database
+pub mod Replies
 pub mod Answers
 pub mod Batches
+pub mod Steps
+pub mod Examples

@@ -1,13 +1,15 @@
 //! Running a batch.
-ghost use Rattle.std.specs.Prelude.{◌≡◌, ◌++◌, length, take, IfOk, OnOk, OnErr};
+ghost use Rattle.std.specs.Prelude.{◌≡◌, ◌<◌, drop, length, IfOk, OnOk, OnErr};
 ghost use Rattle.std.specs.List.{AllByRecursion};
-ghost use Rattle.table_rows.specs.Undoing.{since, LeadsBack};
 ghost use Rattle.batch_answers.specs.Database.{database_of};
 ghost use Rattle.batch_answers.specs.Batches.{ItemFits, runs_of, parts_of, after_runs};
+ghost use Rattle.batch_answers.specs.Steps.{CanGoBack, ends_run};
 
-use line_pipeline::{Batch, Replies};
-use row_types::Schema;
+use crate::items::answer;
+use line_pipeline::{Batch, Item, Part, Replies};
+use row_types::{ByteText, List, Schema};
 use std::alloc::{AllocError, Global};
+use std::mem::replace;
 use table_rows::{Tables, UndoList};
 
 /// Carries out the items of a batch in order, each on the rows that the one before it left.
@@ -29,5 +31,54 @@ pub fn run_batch(
     ensures err { OnErr result (database_of tables.new ≡ database_of tables.old) }
     ensures unnoted { OnErr result (undo.new.entries ≡ undo.old.entries) }
 {
-    Err(AllocError)
+    let mark = undo.mark();
+    match run_all(alloc, tables, schema, batch.items.as_slice(), undo) {
+        Ok(parts) => Ok(Replies { parts }),
+        Err(error) => {
+            tables.undo_to(undo, mark);
+            Err(error)
+        }
+    }
+}
+
+// The part of each run of items, and the rows that they leave.
+fn run_all(
+    alloc: Global,
+    tables: &mut Tables,
+    schema: &Schema,
+    items: &[Item],
+    undo: &mut UndoList,
+) -> Result<List<Part>, AllocError>
+    requires schema { schema.now ≡ tables.old.schema }
+    requires items { AllByRecursion (ItemFits schema.now) items.now }
+    ensures parts { IfOk result (λ parts.
+        parts ≡ parts_of (database_of tables.old) (runs_of items.now)) }
+    ensures rows { OnOk result
+        (database_of tables.new ≡ after_runs (database_of tables.old) (runs_of items.now)) }
+    ensures back { CanGoBack tables.old tables.new undo.old.entries undo.new.entries }
+{
+    let mut parts = List::new(alloc);
+    let mut text = Vec::new(alloc);
+    for (place, item) in items.iter().enumerate() {
+        answer(alloc, tables, schema, &item.kind, undo, &mut text)?;
+        if ends_run(items, place) {
+            let text = ByteText::of_vec(replace(&mut text, Vec::new(alloc)));
+            parts.push(Part {
+                conn: item.conn,
+                text,
+            })?;
+        }
+    }
+    Ok(parts)
+}
+
+// Whether no item of the same connection stands right behind this one.
+fn ends_run(items: &[Item], place: usize) -> bool
+    requires { place < length items.now }
+    ensures { result ≡ ends_run (drop place items.now) }
+{
+    match items.get(place + 1) {
+        None => true,
+        Some(next) => next.conn != items[place].conn,
+    }
 }

@@ -1,6 +1,6 @@
 //! Lines that change a table of people, and what becomes of them. The codes and the rows follow from the rules, and none
 //! comes from a run.
-ghost use Rattle.std.specs.Prelude.{◌≡◌, [], ◌∷◌, IfOk, pos, true, false};
+ghost use Rattle.std.specs.Prelude.{◌≡◌, ◌<◌, length, [], ◌∷◌, IfOk, pos, true, false};
 ghost use Rattle.row_types.specs.declared.values.Value.TheVariants as values;
 ghost use Rattle.open_index.specs.Fits.{HandlesFit};
 ghost use Rattle.row_insert.specs.Examples.{people, people_columns, people_indexes};
@@ -82,14 +82,15 @@ fn schema(alloc: Global) -> Result<Schema, AllocError>
     Ok(Schema { tables })
 }
 
-/// All slots with a row, in the order of their ids.
-fn all_slots(alloc: Global, tables: &Tables) -> Result<Vec<SlotRef>, AllocError>
-    requires { tables.now.schema ≡ people }
+/// All slots with a row, in the order of an index.
+fn all_slots(alloc: Global, tables: &Tables, index: u32) -> Result<Vec<SlotRef>, AllocError>
+    requires people { tables.now.schema ≡ people }
+    requires index { index < length people_indexes }
     ensures { IfOk result (λ slots. AreSlots tables.now 0 slots.items) }
 {
     let mut slots: Vec<SlotRef> = Vec::new(alloc);
     let _ = tables.schema();
-    let mut next = tables.seek(0, 0, &Edge::Open, true);
+    let mut next = tables.seek(0, index, &Edge::Open, true);
     for _ in 0..tables.count(0) {
         let Some(slot) = next else {
             return Ok(slots);
@@ -98,7 +99,7 @@ fn all_slots(alloc: Global, tables: &Tables) -> Result<Vec<SlotRef>, AllocError>
             return Ok(slots);
         }
         slots.insert(0, slot)?;
-        next = tables.step(0, 0, slot, true);
+        next = tables.step(0, index, slot, true);
     }
     Ok(slots)
 }
@@ -132,10 +133,10 @@ fn told(
             Inserted::Refused(code) => Ok(code.saturating_add(100)),
         },
         Resolved::Ask(Request::Modify(find, change)) => {
-            let slots = all_slots(alloc, tables)?;
-            if find.table != 0 {
+            if find.table != 0 || find.index > 2 {
                 return Ok(99);
             }
+            let slots = all_slots(alloc, tables, find.index)?;
             let columns = find.columns.as_slice();
             match modify(alloc, tables, 0, slots.as_slice(), columns, &change, undo)? {
                 Modified::Done(count) => Ok(count),
@@ -192,6 +193,10 @@ const NAMES: &[u8] = b"P\t5\ttest\tt\tPRIMARY\tname";
 
 const IDS: &[u8] = b"P\t6\ttest\tt\tPRIMARY\tid,n";
 
+const NUMBERS_BY_N: &[u8] = b"P\t7\ttest\tt\tby_n\tn";
+
+const IDS_BY_N: &[u8] = b"P\t8\ttest\tt\tby_n\tid";
+
 #[test]
 fn numbers_are_added_and_taken_off(rt: HostRuntime) -> Result<(), Fail> {
     let alloc = rt.alloc();
@@ -246,6 +251,41 @@ fn numbers_are_added_and_taken_off(rt: HostRuntime) -> Result<(), Fail> {
         assert_eq!(rt; shown(alloc, &tables)?.as_str(), rows);
     }
     assert_eq!(rt; undo.mark(), 24);
+    Ok(())
+}
+
+#[test]
+fn each_row_is_changed_once_in_the_order_of_the_index(rt: HostRuntime) -> Result<(), Fail> {
+    let alloc = rt.alloc();
+    worked_rows();
+    let schema = schema(alloc)?;
+    let mut tables = Tables::new(alloc, &schema, 1000)?;
+    let mut handles = handles_new(alloc);
+    let mut undo = UndoList::list_new(alloc);
+    for (line, number, rows) in [
+        (PEOPLE, 0, ""),
+        (IDS, 0, ""),
+        (NUMBERS_BY_N, 0, ""),
+        (IDS_BY_N, 0, ""),
+        (b"1\t+\t3\t1\ta\t3", 1, "1 a 3 |"),
+        (b"1\t+\t3\t2\tb\t2", 1, "1 a 3 |2 b 2 |"),
+        (b"1\t+\t3\t3\tc\t1", 1, "1 a 3 |2 b 2 |3 c 1 |"),
+        // The numbers are those that the index goes by: a row that comes to stand further on is not met again.
+        (b"7\t>=\t1\t0\t9\t0\t+\t1", 3, "1 a 4 |2 b 3 |3 c 2 |"),
+        // From the least id on, a row meets the next one's id. From the greatest on, none does.
+        (b"6\t>=\t1\t0\t9\t0\t+\t1", 116, "1 a 4 |2 b 3 |3 c 2 |"),
+        (b"8\t>=\t1\t0\t9\t0\t+\t1", 3, "2 a 4 |3 b 3 |4 c 2 |"),
+        // Not so where numbers are taken off: then the least goes first, and no row meets one.
+        (b"8\t>=\t1\t0\t9\t0\t-\t1", 116, "2 a 4 |3 b 3 |4 c 2 |"),
+        (b"6\t>=\t1\t0\t9\t0\t-\t1", 3, "1 a 4 |2 b 3 |3 c 2 |"),
+    ] {
+        assert_eq!(rt;
+            told(alloc, &mut tables, &schema, &mut handles, &mut undo, line)?,
+            number
+        );
+        assert_eq!(rt; shown(alloc, &tables)?.as_str(), rows);
+    }
+    assert_eq!(rt; undo.mark(), 12);
     Ok(())
 }
 

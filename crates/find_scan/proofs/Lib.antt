@@ -5,6 +5,6 @@ mod Fresh
 mod Few
 mod Shown
 mod Turns
-mod Chosen
+pub mod Chosen
 mod Distinct
 mod Plays

@@ -1,0 +1,14 @@
+use Rattle.std.proofs.Common.{◌≡◌}
+use Rattle.std.specs.List.{AllByRecursion}
+use Rattle.open_index.specs.Fits.{HandlesFit}
+use Rattle.batch_answers.specs.Batches.{ItemFits}
+use Rattle.batch_answers.specs.Examples.{tested}
+use Rattle.batch_answers.proofs.tests.rows_are_found_by_an_index_a_list_or_a_filter.Given as goal
+
+abbrev pub invariant-loop-line : goal.invariant-loop-line
+invariant-loop-line g l = record {
+  tables : l.play.tables.schema ≡ tested;
+  schema : l.play.schema ≡ tested;
+  handles : HandlesFit tested l.play.handles;
+  items : AllByRecursion (ItemFits tested) l.play.items;
+}

@@ -1,0 +1,64 @@
+//! The replies that show no rows.
+ghost use Rattle.std.specs.Prelude.{◌≡◌, ◌++◌, OnOk};
+ghost use Rattle.batch_answers.specs.Replies.{text_of, code_reply, count_reply};
+
+use hs_token::{push_head, push_integer, push_text};
+use std::alloc::AllocError;
+
+const TAB: u8 = 0x09;
+
+const LINE_FEED: u8 = 0x0A;
+
+/// Appends the reply that is a code alone, or a part of it where memory runs out.
+pub(crate) fn push_code(out: &mut Vec<u8>, code: u32) -> Result<(), AllocError>
+    ensures { OnOk result (out.new.items ≡ out.old.items ++ code_reply code) }
+{
+    push_head(out, code, 1)?;
+    if code == 0 {
+        return Ok(out.push(LINE_FEED)?);
+    }
+    out.push(TAB)?;
+    push_text(out, text_of(code).as_bytes())?;
+    Ok(out.push(LINE_FEED)?)
+}
+
+/// Appends the reply to a change that shows no rows, or a part of it where memory runs out.
+pub(crate) fn push_count(out: &mut Vec<u8>, count: u32) -> Result<(), AllocError>
+    ensures { OnOk result (out.new.items ≡ out.old.items ++ count_reply count) }
+{
+    push_head(out, 0, 1)?;
+    out.push(TAB)?;
+    push_integer(out, i64::from(count))?;
+    Ok(out.push(LINE_FEED)?)
+}
+
+/// The text that stands beside a code, which is empty for a number that is no code's.
+fn text_of(code: u32) -> &'static str
+    ensures { result.now ≡ text_of code }
+{
+    match code {
+        1 => "cmd",
+        2 => "args",
+        3 => "unauth",
+        4 => "token",
+        5 => "noindex",
+        6 => "table",
+        7 => "index",
+        8 => "column",
+        9 => "readonly",
+        10 => "op",
+        11 => "vlen",
+        12 => "in",
+        13 => "filter",
+        14 => "mod",
+        15 => "value",
+        16 => "dup",
+        17 => "null",
+        18 => "range",
+        19 => "full",
+        20 => "big",
+        21 => "ids",
+        22 => "authkey",
+        _ => "",
+    }
+}
