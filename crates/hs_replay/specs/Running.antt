@@ -4,8 +4,11 @@ use Rattle.hs_line.specs.Lines.{lines_of, rest_of}
 use Rattle.hs_line.specs.declared.limits.TheConstants.{MAX_LINE_LEN}
 use Rattle.hs_outside.specs.Streams.{Taker, Grew, GrewPart, Rose}
 use Rattle.hs_replay.specs.Script as script
+use Rattle.hs_token.specs.declared.tokens.Token.{Token}
+use Rattle.hs_schema.specs.Reading.{table_at}
 use Rattle.replay_script.specs.declared.events.Event.{Event}
-use Rattle.hs_replay.specs.Script.{State, text_from, bad_line_from, after, printed, flaw_of, bad_line}
+use Rattle.replay_script.specs.declared.events.Event.TheVariants as events
+use Rattle.hs_replay.specs.Script.{State, text_from, bad_line_from, after, printed, flaw_of, breach_of, bad_line}
 use Rattle.hs_replay.specs.declared.ends.Flaw.TheVariants.{NoEvent}
 use Rattle.hs_replay.specs.declared.ends.BadLine.{BadLine}
 use Rattle.hs_replay.specs.declared.ends.Outcome.{Outcome}
@@ -66,6 +69,20 @@ EventDoes (outcomes.Refused flaw) event old new before now = (flaw_of event old 
 EventDoes outcomes.Unwritten event old new before now =
     (flaw_of event old ≡ None) × GrewPart before now (printed event old) × Rose before.faults now.faults
 EventDoes outcomes.Memory event old new before now = now ≡ before
+
+-- What comes of a text that is to be printed.
+abbrev pub PrintDoes : Outcome → List ℕ → Taker → Taker → Type 0
+PrintDoes outcomes.Done text before now = Grew before now text × (now.faults ≡ before.faults)
+PrintDoes (outcomes.Refused flaw) text before now = ⊥
+PrintDoes outcomes.Unwritten text before now = GrewPart before now text × Rose before.faults now.faults
+PrintDoes outcomes.Memory text before now = now ≡ before
+
+-- What comes of a table line: its table stands behind the others, or it breaks a rule.
+abbrev pub TableDoes : Outcome → List Token → State → State → Type 0
+TableDoes outcomes.Done line old new = (breach_of (table_at old.schema.tables line) ≡ None) × (new ≡ after (events.Table line) old)
+TableDoes (outcomes.Refused flaw) line old new = breach_of (table_at old.schema.tables line) ≡ Some flaw
+TableDoes outcomes.Unwritten line old new = ⊥
+TableDoes outcomes.Memory line old new = Unit {0}
 
 -- The step of the line with this number, by what came of its event.
 abbrev pub step_of : ℕ → Outcome → Step

@@ -15,9 +15,10 @@ use Rattle.line_pipeline.specs.Conn.{secret_of}
 use Rattle.replay_script.specs.declared.events.Event.{Event}
 use Rattle.replay_script.specs.declared.events.Event.TheVariants as events
 use Rattle.replay_script.specs.Events.{event_of}
-use Rattle.replay_turns.specs.Session.{Session, new_session, has_conn, is_at, may_send, with_conn, table_named, shown}
-use Rattle.replay_turns.specs.Session as session
-use Rattle.replay_turns.specs.Turn.{turn}
+use Rattle.batch_answers.specs.Database.{empty_database}
+use Rattle.replay_turns.specs.Linked.{Linked, linked_at, opened, on, peer_sent, peer_ended, with_room, failing_next}
+use Rattle.replay_turns.specs.Session.{Session, turn}
+use Rattle.replay_turns.specs.Shown.{table_at, rows_shown}
 use Rattle.hs_replay.specs.declared.ends.Flaw.{Flaw}
 use Rattle.hs_replay.specs.declared.ends.Flaw.TheVariants.{NoEvent, BadTable}
 use Rattle.hs_replay.specs.declared.ends.BadLine.{BadLine}
@@ -47,13 +48,30 @@ start = record {
 abbrev pub limit_of : State → ℕ
 limit_of s = unwrap_or s.bytes_max most_bytes
 
--- The connections and the rows: none, before the first event.
-abbrev pub begun : State → Session
-begun s = unwrap_or s.session (new_session s.schema s.secrets (limit_of s))
+-- Before the first event there are no connections and no rows.
+abbrev pub at_first : State → Session
+at_first s = record {
+  schema = s.schema;
+  secrets = s.secrets;
+  database = empty_database s.schema (limit_of s);
+  conns = [];
+}
 
--- The state with these.
+-- The connections and the rows.
+abbrev pub session_of : State → Session
+session_of s = unwrap_or s.session (at_first s)
+
+-- The connection of this number, if it is open.
+abbrev pub conn_in : ℕ → State → Option Linked
+conn_in number s = linked_at number (session_of s).conns
+
+-- The state with these connections and rows.
 abbrev pub with_session : State → Session → State
 with_session s new = record s { session = Some new }
+
+-- The state with the connection of this number changed.
+abbrev pub with_conn : ℕ → (Linked → Linked) → State → State
+with_conn number change s = with_session s (record (session_of s) { conns = on number change (session_of s).conns })
 
 -- ---- which events may come
 
@@ -61,18 +79,35 @@ with_session s new = record s { session = Some new }
 abbrev pub is_among : ℕ → List ℕ → Bool
 is_among n ns = list_any (λ m. m == n) ns
 
--- Whether an event may come. The head is over with the first that is none of its lines.
+-- Whether a peer may send more: its connection is open, and it hasn't ended.
+abbrev pub may_send : Option Linked → Bool
+may_send None = false
+may_send (Some l) = not l.peer_ended
+
+-- Whether two ports are one.
+abbrev pub same_port : Port → Port → Bool
+same_port ports.Reading ports.Reading = true
+same_port ports.Writing ports.Writing = true
+same_port ports.Sql ports.Sql = true
+same_port _ _ = false
+
+-- Whether a connection is open, and on this port.
+abbrev pub is_on : Port → Option Linked → Bool
+is_on port None = false
+is_on port (Some l) = same_port l.port port
+
+-- Whether an event may come. The head is over with the first event that is none of its lines.
 abbrev pub may_come : Event → State → Bool
 may_come (events.Table line) s = is_none s.session
-may_come (events.LimitBytes n) s = is_none s.session && is_none s.bytes_max
+may_come (events.LimitBytes most) s = is_none s.session && is_none s.bytes_max
 may_come (events.Secret port key) s = is_none s.session && is_none (secret_of s.secrets port)
-may_come (events.Open n port) s = not (is_among n s.opened) && nat_lt (length (begun s).conns) 256
-may_come (events.Bytes n piece) s = may_send (begun s) n
-may_come (events.End n) s = may_send (begun s) n
-may_come (events.Room n count) s = has_conn (begun s) n
-may_come (events.Fault n) s = has_conn (begun s) n
-may_come (events.Turn port ns) s = list_all (is_at (begun s) port) ns
-may_come (events.Show db name) s = is_some (table_named s.schema db name)
+may_come (events.Open number port) s = not (is_among number s.opened) && nat_lt (length (session_of s).conns) 256
+may_come (events.Bytes number piece) s = may_send (conn_in number s)
+may_come (events.End number) s = may_send (conn_in number s)
+may_come (events.Room number count) s = is_some (conn_in number s)
+may_come (events.Fault number) s = is_some (conn_in number s)
+may_come (events.Turn port numbers) s = list_all (λ number. is_on port (conn_in number s)) numbers
+may_come (events.Show db name) s = is_some (table_at s.schema db name)
 
 -- The first rule that a table line breaks, and its token.
 abbrev pub breach_of : Result TableDef Breach → Option Flaw
@@ -101,23 +136,28 @@ with_secret secrets ports.Reading key = record secrets { reading = Some key }
 with_secret secrets ports.Writing key = record secrets { writing = Some key }
 with_secret secrets ports.Sql key = secrets
 
+-- The session with one more connection.
+abbrev pub with_one_more : ℕ → Port → Session → Session
+with_one_more number port session = record session { conns = session.conns ++ opened session.secrets number port ∷ [] }
+
 -- The state that an event leaves.
 abbrev pub after : Event → State → State
 after (events.Table line) s = record s { schema = record { tables = with_table s.schema.tables (table_at s.schema.tables line) } }
-after (events.LimitBytes n) s = record s { bytes_max = Some n }
+after (events.LimitBytes most) s = record s { bytes_max = Some most }
 after (events.Secret port key) s = record s { secrets = with_secret s.secrets port key }
-after (events.Open n port) s = record s { opened = s.opened ++ n ∷ []; session = Some (with_conn n port (begun s)) }
-after (events.Bytes n piece) s = with_session s (session.peer_sends n piece (begun s))
-after (events.End n) s = with_session s (session.peer_ends n (begun s))
-after (events.Room n count) s = with_session s (session.has_room n count (begun s))
-after (events.Fault n) s = with_session s (session.fails_next n (begun s))
-after (events.Turn port ns) s = with_session s (turn ns (begun s)).1
-after (events.Show db name) s = with_session s (begun s)
+after (events.Open number port) s =
+    record (with_session s (with_one_more number port (session_of s))) { opened = s.opened ++ number ∷ [] }
+after (events.Bytes number piece) s = with_conn number (peer_sent piece) s
+after (events.End number) s = with_conn number peer_ended s
+after (events.Room number count) s = with_conn number (with_room count) s
+after (events.Fault number) s = with_conn number failing_next s
+after (events.Turn port numbers) s = with_session s (turn numbers (session_of s)).1
+after (events.Show db name) s = with_session s (session_of s)
 
 -- What an event prints.
 abbrev pub printed : Event → State → List ℕ
-printed (events.Turn port ns) s = (turn ns (begun s)).0
-printed (events.Show db name) s = shown (table_named s.schema db name) (begun s)
+printed (events.Turn port numbers) s = (turn numbers (session_of s)).0
+printed (events.Show db name) s = rows_shown (table_at s.schema db name) (session_of s).database
 printed _ s = []
 
 -- ---- a whole script

@@ -6,6 +6,9 @@ mod ends;
 mod program;
 mod replays;
 mod running;
+mod secrets;
+#[cfg(test)]
+mod tests;
 
 pub use commands::path_of;
 pub use ends::{BadLine, Ending, Flaw, Outcome, Step};

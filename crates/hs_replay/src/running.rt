@@ -23,6 +23,8 @@ struct Runner {
     held: LineBuf,
     lines: u64,
     replay: Replay,
+    // What an event prints. Its memory is used again and again.
+    text: Vec<u8>,
 }
 
 impl Model for Runner {
@@ -41,6 +43,7 @@ impl Runner {
             held: LineBuf::new(alloc)?,
             lines: 0,
             replay: Replay::new(alloc),
+            text: Vec::new(alloc),
         })
     }
 
@@ -64,7 +67,8 @@ impl Runner {
             return no_event(number);
         };
         self.lines = number;
-        step_of(number, self.replay.take_event(alloc, out, event))
+        let outcome = self.replay.take_event(alloc, out, &mut self.text, event);
+        step_of(number, outcome)
     }
 
     /// Carries out the lines that are held, up to one that is not whole yet.
