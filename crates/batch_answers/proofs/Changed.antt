@@ -103,9 +103,14 @@ module _ (f : ℕ → ℕ) (apart : (a b : ℕ) → (f a == f b) ≡ (a == b)) (
   module _ (columns : List ℕ) (change : ModSpec) where
     module _ (ts us : List Rows) (same : AreMoved f table ts us) (slot : SlotRef) where
       put_same : (refusal : Option Code) (row : List Value) → Same (unless_refused refusal (with_row_at (at ts) table (f slot.0) row)) (unless_refused refusal (with_row_at (at us) table slot.0 row))
-      put_same None row =
-          (_, _, refl, refl, moved_with f table ts us same _ _ _ _
-          (ap (with_row def.indexes (f slot.0) row) same.entries ∙ put_moved f apart def.indexes slot.0 row (get_or us table no_rows).entries))
+      put_same None row = (
+        _,
+        _,
+        refl,
+        refl,
+        moved_with f table ts us same _ _ _ _
+            (ap (with_row def.indexes (f slot.0) row) same.entries ∙ put_moved f apart def.indexes slot.0 row (get_or us table no_rows).entries),
+      )
       put_same (Some code) row = refl
 
       instead_same : (made : Result (List Value) Code) → Same (made >>= with_instead table (moved_slot f slot) (at ts)) (made >>= with_instead table slot (at us))
@@ -115,9 +120,14 @@ module _ (f : ℕ → ℕ) (apart : (a b : ℕ) → (f a == f b) ≡ (a == b)) (
           (sym (refusal_same ts us same slot.0 row)) (put_same (refusal_of (at us) table row (Some slot)) row)
 
       gone_same : Same (Ok (without_at (at ts) table (f slot.0))) (Ok (without_at (at us) table slot.0))
-      gone_same =
-          (_, _, refl, refl, moved_with f table ts us same _ _ _ _
-          (ap (without (f slot.0)) same.entries ∙ without_moved f apart slot.0 (get_or us table no_rows).entries))
+      gone_same = (
+        _,
+        _,
+        refl,
+        refl,
+        moved_with f table ts us same _ _ _ _
+            (ap (without (f slot.0)) same.entries ∙ without_moved f apart slot.0 (get_or us table no_rows).entries),
+      )
 
       by_kind : (b : Bool) (made : Result (List Value) Code) → Same (cond b (Ok (without_at (at ts) table (f slot.0))) (made >>= with_instead table (moved_slot f slot) (at ts))) (cond b (Ok (without_at (at us) table slot.0)) (made >>= with_instead table slot (at us)))
       by_kind true made = gone_same

@@ -50,9 +50,12 @@ goes_on item (next ∷ later) ends = by_same (same_id item.conn next.conn) refl 
     by_same : (b : Bool) → same_id item.conn next.conn ≡ b → not b ≡ false → (kinds : List ItemKind) × (rest : List (ConnId × List ItemKind)) × (runs_of (next ∷ later) ≡ (item.conn, kinds) ∷ rest) × (runs_of (item ∷ next ∷ later) ≡ (item.conn, item.kind ∷ kinds) ∷ rest)
     by_same true same no_end =
         let first = headed next (runs_of later) in
-        let conn = same_conn item.conn next.conn same in
-        (first.0, first.1, first.2 ∙ ap (λ (c : ConnId). (c, first.0) ∷ first.1) (sym conn),
-        ap (with_item item) first.2 ∙ rw same refl)
+        let conn = same_conn item.conn next.conn same in (
+          first.0,
+          first.1,
+          first.2 ∙ ap (λ (c : ConnId). (c, first.0) ∷ first.1) (sym conn),
+          ap (with_item item) first.2 ∙ rw same refl,
+        )
     by_same false differ no_end = absurd (true≢false no_end)
 
 module _ (db : Database) (text reply : List ℕ) (item : Item) (rest : List Item) (is : reply ≡ (answered db item.kind).0) where

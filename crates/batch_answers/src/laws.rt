@@ -18,13 +18,19 @@ pub fn worked_answers()
         ≡ (48 ∷ 9 ∷ 49 ∷ 9 ∷ 51 ∷ 9 ∷ 50 ∷ 10 ∷ [], rows_within 0 four) }
     ensures added { request_answered (rows_within 0 four)
         (Modify (showing (2 ∷ []) (find_of 0 GreaterEqual 3 9 0)) (change_by Add (int 1 ∷ []) false))
-        ≡ (count_reply 2, rows_within 0
-        (row 1 97 4 ∷ row 2 98 4 ∷ row 3 99 5 ∷ row 4 100 7 ∷ [])) }
+        ≡ (
+          count_reply 2,
+          rows_within 0
+              (row 1 97 4 ∷ row 2 98 4 ∷ row 3 99 5 ∷ row 4 100 7 ∷ []),
+        ) }
     // 0 1 4 6: the rows from before the change.
     ensures shown { request_answered (rows_within 0 four)
         (Modify (showing (2 ∷ []) (find_of 0 GreaterEqual 3 9 0)) (change_by Add (int 1 ∷ []) true))
-        ≡ (48 ∷ 9 ∷ 49 ∷ 9 ∷ 52 ∷ 9 ∷ 54 ∷ 10 ∷ [], rows_within 0
-        (row 1 97 4 ∷ row 2 98 4 ∷ row 3 99 5 ∷ row 4 100 7 ∷ [])) }
+        ≡ (
+          48 ∷ 9 ∷ 49 ∷ 9 ∷ 52 ∷ 9 ∷ 54 ∷ 10 ∷ [],
+          rows_within 0
+              (row 1 97 4 ∷ row 2 98 4 ∷ row 3 99 5 ∷ row 4 100 7 ∷ []),
+        ) }
     // The first row becomes 9, and the second would.
     ensures refused { request_answered (rows_within 0 four)
         (Modify (showing (0 ∷ []) (find_of 0 GreaterEqual 3 9 0)) (change_by Update (int 9 ∷ []) false))
@@ -32,8 +38,11 @@ pub fn worked_answers()
     // A row keeps its name when its key changes: each is moved once.
     ensures moved { request_answered (rows_within 0 four)
         (Modify (showing (0 ∷ []) (find_of 0 LessEqual 4 9 0)) (change_by Add (int 1 ∷ []) false))
-        ≡ (count_reply 4, rows_within 0
-        (row 2 97 4 ∷ row 3 98 4 ∷ row 4 99 4 ∷ row 5 100 6 ∷ [])) }
+        ≡ (
+          count_reply 4,
+          rows_within 0
+              (row 2 97 4 ∷ row 3 98 4 ∷ row 4 99 4 ∷ row 5 100 6 ∷ []),
+        ) }
     ensures removed { request_answered (rows_within 0 four)
         (Modify (showing (0 ∷ []) (find_of 0 LessEqual 2 9 0)) (change_by Remove [] false))
         ≡ (count_reply 2, rows_within 0 (row 3 99 4 ∷ row 4 100 6 ∷ [])) }

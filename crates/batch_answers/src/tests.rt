@@ -20,6 +20,9 @@ const NAMES: &[u8] = b"P\t5\ttest\tt\tPRIMARY\tname";
 
 const BLOBS: &[u8] = b"P\t1\ttest\tb\tPRIMARY\tid,v";
 
+const HUNDRED: &str =
+    "xxxxxxxxxxxxxxxxxxxxxxxxxxxxxxxxxxxxxxxxxxxxxxxxxxxxxxxxxxxxxxxxxxxxxxxxxxxxxxxxxxxxxxxxxxxxxxxxxxxx";
+
 #[test]
 fn rows_are_found_by_an_index_a_list_or_a_filter(rt: HostRuntime) -> Result<(), Fail> {
     let alloc = rt.alloc();
@@ -36,7 +39,10 @@ fn rows_are_found_by_an_index_a_list_or_a_filter(rt: HostRuntime) -> Result<(), 
         (b"1\t=\t1\t9\t2\t1\t@\t0\t3\t3\t1\t3", "1:0\t3\t1\ta\t4\n"),
         (b"3\t>=\t1\t1\t10\t0\tF\t!=\t1\t2", "1:0\t1\t1\t3\t4\n"),
         (b"3\t>=\t1\t1\t10\t0\tW\t!=\t1\t2", "1:0\t1\t1\n"),
-        (b"3\t>=\t1\t1\t10\t0\tF\t=\t0\t4\tW\t!=\t1\t3", "1:0\t1\t1\t2\n"),
+        (
+            b"3\t>=\t1\t1\t10\t0\tF\t=\t0\t4\tW\t!=\t1\t3",
+            "1:0\t1\t1\t2\n",
+        ),
     ] {
         ask(alloc, &mut play, 1, line)?;
         assert_eq!(rt; run(alloc, &mut play)?.as_slice(), reply.as_bytes());
@@ -53,7 +59,10 @@ fn any_byte_goes_in_and_comes_out(rt: HostRuntime) -> Result<(), Fail> {
         (b"1\t+\t3\t2\t\x01@\x01I\x01J\x01OA\t7", "1:0\t1\n"),
         (b"1\t+\t3\t3\t\x00\t8", "1:0\t1\n"),
         (b"1\t+\t3\t4\t\t9", "1:0\t1\n"),
-        (b"1\t>=\t1\t2\t3\t0", "1:0\t3\t2\t\x01@\x01I\x01J\x01OA\t7\t3\t\x00\t8\t4\t\t9\n"),
+        (
+            b"1\t>=\t1\t2\t3\t0",
+            "1:0\t3\t2\t\x01@\x01I\x01J\x01OA\t7\t3\t\x00\t8\t4\t\t9\n",
+        ),
     ] {
         ask(alloc, &mut play, 1, line)?;
         assert_eq!(rt; run(alloc, &mut play)?.as_slice(), reply.as_bytes());
@@ -104,7 +113,10 @@ fn a_refused_line_leaves_all_rows(rt: HostRuntime) -> Result<(), Fail> {
         (b"1\t=\t1\tx", "1:15\t1\tvalue\n"),
         (b"1\t+\t1\t\x00", "1:17\t1\tnull\n"),
         (b"7\t=\t1\t1", "1:5\t1\tnoindex\n"),
-        (b"1\t>=\t1\t1\t10\t0", "1:0\t3\t1\ta\t1\t2\tb\t9223372036854775807\n"),
+        (
+            b"1\t>=\t1\t1\t10\t0",
+            "1:0\t3\t1\ta\t1\t2\tb\t9223372036854775807\n",
+        ),
     ] {
         ask(alloc, &mut play, 1, line)?;
         assert_eq!(rt; run(alloc, &mut play)?.as_slice(), reply.as_bytes());
@@ -159,8 +171,8 @@ fn a_reply_is_too_big_from_a_byte_on(rt: HostRuntime) -> Result<(), Fail> {
     for id in 1..2101_u32 {
         let mut line = String::new(alloc);
         write!(line, "1\t+\t2\t{id}\t")?;
-        for _ in 0..8000 {
-            line.push_str("x")?;
+        for _ in 0..80 {
+            line.push_str(HUNDRED)?;
         }
         ask(alloc, &mut play, 1, line.as_bytes())?;
     }
@@ -168,11 +180,20 @@ fn a_reply_is_too_big_from_a_byte_on(rt: HostRuntime) -> Result<(), Fail> {
     ask(alloc, &mut play, 1, b"1\t>=\t1\t1\t2000\t0")?;
     assert_eq!(rt; run(alloc, &mut play)?.len(), 2 + 16_010_897);
     ask(alloc, &mut play, 1, b"1\t>=\t1\t1\t2100\t0")?;
-    assert_eq!(rt; run(alloc, &mut play)?.as_slice(), "1:20\t1\tbig\n".as_bytes());
+    assert_eq!(rt;
+        run(alloc, &mut play)?.as_slice(),
+        "1:20\t1\tbig\n".as_bytes()
+    );
     // Nothing is changed where the rows from before can't be shown.
     ask(alloc, &mut play, 1, b"1\t>=\t1\t1\t2100\t0\tD?")?;
-    assert_eq!(rt; run(alloc, &mut play)?.as_slice(), "1:20\t1\tbig\n".as_bytes());
+    assert_eq!(rt;
+        run(alloc, &mut play)?.as_slice(),
+        "1:20\t1\tbig\n".as_bytes()
+    );
     ask(alloc, &mut play, 1, b"1\t>=\t1\t1\t2100\t0\tD")?;
-    assert_eq!(rt; run(alloc, &mut play)?.as_slice(), "1:0\t1\t2100\n".as_bytes());
+    assert_eq!(rt;
+        run(alloc, &mut play)?.as_slice(),
+        "1:0\t1\t2100\n".as_bytes()
+    );
     Ok(())
 }

@@ -158,7 +158,12 @@ fn kind_of(
 }
 
 /// A line of a connection comes to what is to be asked.
-pub(super) fn ask(alloc: Global, play: &mut Play, number: u32, line: &[u8]) -> Result<(), AllocError>
+pub(super) fn ask(
+    alloc: Global,
+    play: &mut Play,
+    number: u32,
+    line: &[u8],
+) -> Result<(), AllocError>
     requires tables { play.old.tables.schema ≡ tested }
     requires schema { play.old.schema ≡ tested }
     requires handles { HandlesFit tested play.old.handles }
@@ -189,7 +194,13 @@ pub(super) fn run(alloc: Global, play: &mut Play) -> Result<Vec<u8>, AllocError>
 {
     let items = replace(&mut play.items, List::new(alloc));
     let batch = Batch { items };
-    let replies = run_batch(alloc, &mut play.tables, &play.schema, &batch, &mut play.undo)?;
+    let replies = run_batch(
+        alloc,
+        &mut play.tables,
+        &play.schema,
+        &batch,
+        &mut play.undo,
+    )?;
     told(alloc, &replies)
 }
 

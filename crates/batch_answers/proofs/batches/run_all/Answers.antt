@@ -45,19 +45,25 @@ loop-place-preserved c =
     let back = back_then c.args.tables.now c.loop-place.tables c.answer.new.tables c.args.undo.now.entries c.loop-place.undo.entries c.answer.new.undo.entries c.loop-place.invariant.back c.answer.ensures.back in
     elim c.if-ends_run.branch [
       | then-ends_run+in_ok-push w ↦ record {
-          parts =
-              rw (w.parts-is, w.text-is)
-              (ends_step before after c.loop-place.text.items c.answer.new.out.items c.loop-place.parts w.push.new.self item items rest whole cut c.in_ok-answer.ensures.reply c.in_ok-answer.ensures.rows c.loop-place.invariant.parts
-              (sym c.ends_run.ensures ∙ w.if-ends_run.true) w.replace.new.dest.items
-              (ap (λ v. v.items) w.replace.ensures.after ∙ w.new.ensures.items)
-              (w.in_ok-push.ensures.ok ∙ ap (λ (text : List ℕ). c.loop-place.parts ++ record { conn = item.conn; text = text } ∷ []) (w.of_vec-text.ensures ∙ ap (λ v. v.items) w.replace.ensures.value)));
-          rows = rows; schema = schema; fits = fits; back = back;
-        }
+        parts =
+            rw (w.parts-is, w.text-is)
+            (ends_step before after c.loop-place.text.items c.answer.new.out.items c.loop-place.parts w.push.new.self item items rest whole cut c.in_ok-answer.ensures.reply c.in_ok-answer.ensures.rows c.loop-place.invariant.parts
+            (sym c.ends_run.ensures ∙ w.if-ends_run.true) w.replace.new.dest.items
+            (ap (λ v. v.items) w.replace.ensures.after ∙ w.new.ensures.items)
+            (w.in_ok-push.ensures.ok ∙ ap (λ (text : List ℕ). c.loop-place.parts ++ record { conn = item.conn; text = text } ∷ []) (w.of_vec-text.ensures ∙ ap (λ v. v.items) w.replace.ensures.value)));
+        rows = rows;
+        schema = schema;
+        fits = fits;
+        back = back;
+      }
       | else-ends_run w ↦ record {
-          parts =
-              rw (w.parts-is, w.text-is)
-              (goes_step before after c.loop-place.text.items c.answer.new.out.items c.loop-place.parts c.loop-place.parts item items rest whole cut c.in_ok-answer.ensures.reply c.in_ok-answer.ensures.rows c.loop-place.invariant.parts
-              (sym c.ends_run.ensures ∙ w.if-ends_run.false) refl);
-          rows = rows; schema = schema; fits = fits; back = back;
-        }
+        parts =
+            rw (w.parts-is, w.text-is)
+            (goes_step before after c.loop-place.text.items c.answer.new.out.items c.loop-place.parts c.loop-place.parts item items rest whole cut c.in_ok-answer.ensures.reply c.in_ok-answer.ensures.rows c.loop-place.invariant.parts
+            (sym c.ends_run.ensures ∙ w.if-ends_run.false) refl);
+        rows = rows;
+        schema = schema;
+        fits = fits;
+        back = back;
+      }
     ]

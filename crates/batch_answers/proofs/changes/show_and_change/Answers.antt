@@ -65,7 +65,7 @@ returns-in-Done-clause-reply c =
     let reply = find_reply c.as_slice-columns.result.now (rows_at state find.table c.as_slice.result.now) in
     let same = reply_is state c.schema.ensures.valid find below c.as_slice-columns.result.now c.as_slice.result.now c.as_slice-columns.ensures (c.as_slice.ensures.value ∙ c.in_ok-slots.ensures.selected) in
     let done = shown_answer (database_of state) find c.args.change.now c.requires.shows reply same (Done c.in-Done.field-0) after (sym c.in-Fits.is ∙ c.in_ok-render.ensures.size)
-        (λ text. c.in_ok-change_rows-in-Fits.ensures.made text ∙ ap (λ (a : Modified). (reply_of text a, after)) c.in-Done.is) in
+    (λ text. c.in_ok-change_rows-in-Fits.ensures.made text ∙ ap (λ (a : Modified). (reply_of text a, after)) c.in-Done.is) in
     c.in_ok-render.ensures.shown ∙ ap (λ (r : Rendered). out ++ shown r reply) c.in-Fits.is ∙ ap (λ a. out ++ a.0) (sym done)
 
 pub returns-in-Done-clause-rows : goal.returns-in-Done-clause-rows
@@ -77,7 +77,7 @@ returns-in-Done-clause-rows c =
     let reply = find_reply c.as_slice-columns.result.now (rows_at state find.table c.as_slice.result.now) in
     let same = reply_is state c.schema.ensures.valid find below c.as_slice-columns.result.now c.as_slice.result.now c.as_slice-columns.ensures (c.as_slice.ensures.value ∙ c.in_ok-slots.ensures.selected) in
     let done = shown_answer (database_of state) find c.args.change.now c.requires.shows reply same (Done c.in-Done.field-0) after (sym c.in-Fits.is ∙ c.in_ok-render.ensures.size)
-        (λ text. c.in_ok-change_rows-in-Fits.ensures.made text ∙ ap (λ (a : Modified). (reply_of text a, after)) c.in-Done.is) in
+    (λ text. c.in_ok-change_rows-in-Fits.ensures.made text ∙ ap (λ (a : Modified). (reply_of text a, after)) c.in-Done.is) in
     ap (λ a. a.1) (sym done)
 
 pub returns-clause-reply : goal.returns-clause-reply
@@ -90,7 +90,7 @@ returns-clause-reply c =
     let reply = find_reply c.as_slice-columns.result.now (rows_at state find.table c.as_slice.result.now) in
     let same = reply_is state c.schema.ensures.valid find below c.as_slice-columns.result.now c.as_slice.result.now c.as_slice-columns.ensures (c.as_slice.ensures.value ∙ c.in_ok-slots.ensures.selected) in
     let refused = shown_answer (database_of state) find c.args.change.now c.requires.shows reply same (Refused c.in-Refused.code) after (sym c.in-Fits.is ∙ c.in_ok-render.ensures.size)
-        (λ text. c.in_ok-change_rows-in-Fits.ensures.made text ∙ ap (λ (a : Modified). (reply_of text a, after)) c.in-Refused.is) in
+    (λ text. c.in_ok-change_rows-in-Fits.ensures.made text ∙ ap (λ (a : Modified). (reply_of text a, after)) c.in-Refused.is) in
     let appended = c.in_ok-render.ensures.shown ∙ ap (λ (r : Rendered). out ++ shown r reply) c.in-Fits.is in
     let len : c.len-len.result ≡ length out = omega (arith, c.len-len.ensures, c.args.out.now.ok.0) in
     let before = c.truncate.ensures.items ∙ ap₂ (λ (n : ℕ) (o : List ℕ). take n o) len appended ∙ take-append_seam out reply in
@@ -106,5 +106,5 @@ returns-clause-rows c =
     let reply = find_reply c.as_slice-columns.result.now (rows_at state find.table c.as_slice.result.now) in
     let same = reply_is state c.schema.ensures.valid find below c.as_slice-columns.result.now c.as_slice.result.now c.as_slice-columns.ensures (c.as_slice.ensures.value ∙ c.in_ok-slots.ensures.selected) in
     let refused = shown_answer (database_of state) find c.args.change.now c.requires.shows reply same (Refused c.in-Refused.code) after (sym c.in-Fits.is ∙ c.in_ok-render.ensures.size)
-        (λ text. c.in_ok-change_rows-in-Fits.ensures.made text ∙ ap (λ (a : Modified). (reply_of text a, after)) c.in-Refused.is) in
+    (λ text. c.in_ok-change_rows-in-Fits.ensures.made text ∙ ap (λ (a : Modified). (reply_of text a, after)) c.in-Refused.is) in
     on_ok_weaker c.push_code-in-Refused.result (λ pushed. ap (λ a. a.1) (sym refused)) c.push_code-in-Refused.ensures

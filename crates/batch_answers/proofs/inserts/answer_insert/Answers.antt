@@ -30,26 +30,26 @@ pub returns-in-Done-clause-reply : goal.returns-in-Done-clause-reply
 returns-in-Done-clause-reply c =
     let below = insert_within c.args.tables.now c.schema.ensures.valid c.args.schema.now c.requires.schema c.args.spec.now c.requires.fits in
     let same = insert_is c.args.tables.now c.insert.new.tables c.schema.ensures.valid c.args.spec.now below c.args.undo.now.entries c.insert.new.undo.entries (Ok c.in_ok-insert.field-0) Done
-        (ap Ok c.in-Done.is) (sym c.in-Done.is ∙ c.in_ok-insert.ensures.answer) c.in_ok-insert.ensures.put c.in_ok-insert.ensures.unchanged in
+    (ap Ok c.in-Done.is) (sym c.in-Done.is ∙ c.in_ok-insert.ensures.answer) c.in_ok-insert.ensures.put c.in_ok-insert.ensures.unchanged in
     on_ok_weaker c.push_code.result (λ pushed. pushed ∙ ap (λ a. c.args.out.now.items ++ a.0) (sym same)) c.push_code.ensures
 
 pub returns-in-Done-clause-rows : goal.returns-in-Done-clause-rows
 returns-in-Done-clause-rows c =
     let below = insert_within c.args.tables.now c.schema.ensures.valid c.args.schema.now c.requires.schema c.args.spec.now c.requires.fits in
     let same = insert_is c.args.tables.now c.insert.new.tables c.schema.ensures.valid c.args.spec.now below c.args.undo.now.entries c.insert.new.undo.entries (Ok c.in_ok-insert.field-0) Done
-        (ap Ok c.in-Done.is) (sym c.in-Done.is ∙ c.in_ok-insert.ensures.answer) c.in_ok-insert.ensures.put c.in_ok-insert.ensures.unchanged in
+    (ap Ok c.in-Done.is) (sym c.in-Done.is ∙ c.in_ok-insert.ensures.answer) c.in_ok-insert.ensures.put c.in_ok-insert.ensures.unchanged in
     on_ok_weaker c.push_code.result (λ pushed. ap (λ a. a.1) (sym same)) c.push_code.ensures
 
 pub returns-in-Refused-clause-reply : goal.returns-in-Refused-clause-reply
 returns-in-Refused-clause-reply c =
     let below = insert_within c.args.tables.now c.schema.ensures.valid c.args.schema.now c.requires.schema c.args.spec.now c.requires.fits in
     let same = insert_is c.args.tables.now c.insert.new.tables c.schema.ensures.valid c.args.spec.now below c.args.undo.now.entries c.insert.new.undo.entries (Ok c.in_ok-insert.field-0) (Refused c.in-Refused.code)
-        (ap Ok c.in-Refused.is) (sym c.in-Refused.is ∙ c.in_ok-insert.ensures.answer) c.in_ok-insert.ensures.put c.in_ok-insert.ensures.unchanged in
+    (ap Ok c.in-Refused.is) (sym c.in-Refused.is ∙ c.in_ok-insert.ensures.answer) c.in_ok-insert.ensures.put c.in_ok-insert.ensures.unchanged in
     on_ok_weaker c.push_code-in-Refused.result (λ pushed. pushed ∙ ap (λ a. c.args.out.now.items ++ a.0) (sym same)) c.push_code-in-Refused.ensures
 
 pub returns-in-Refused-clause-rows : goal.returns-in-Refused-clause-rows
 returns-in-Refused-clause-rows c =
     let below = insert_within c.args.tables.now c.schema.ensures.valid c.args.schema.now c.requires.schema c.args.spec.now c.requires.fits in
     let same = insert_is c.args.tables.now c.insert.new.tables c.schema.ensures.valid c.args.spec.now below c.args.undo.now.entries c.insert.new.undo.entries (Ok c.in_ok-insert.field-0) (Refused c.in-Refused.code)
-        (ap Ok c.in-Refused.is) (sym c.in-Refused.is ∙ c.in_ok-insert.ensures.answer) c.in_ok-insert.ensures.put c.in_ok-insert.ensures.unchanged in
+    (ap Ok c.in-Refused.is) (sym c.in-Refused.is ∙ c.in_ok-insert.ensures.answer) c.in_ok-insert.ensures.put c.in_ok-insert.ensures.unchanged in
     on_ok_weaker c.push_code-in-Refused.result (λ pushed. ap (λ a. a.1) (sym same)) c.push_code-in-Refused.ensures
