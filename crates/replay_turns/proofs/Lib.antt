@@ -7,3 +7,6 @@ pub mod Fitting
 pub mod Runs
 pub mod Settling
 pub mod Calls
+pub mod ToldLines
+pub mod Turns
+pub mod Answering

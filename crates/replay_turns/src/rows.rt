@@ -1,5 +1,5 @@
 //! The rows of a table, printed.
-ghost use Rattle.std.specs.Prelude.{◌≡◌, ◌<◌, ◌++◌, ◌∷◌, true, length, get_or, map, OnOk};
+ghost use Rattle.std.specs.Prelude.{◌≡◌, ◌<◌, ◌++◌, ◌∷◌, [], length, get_or, OnOk};
 ghost use Rattle.hs_token.specs.Spelling.{token_spelled, behind_tabs};
 ghost use Rattle.row_types.specs.Valid.{is_primary};
 ghost use Rattle.batch_answers.specs.Database.{database_of};
