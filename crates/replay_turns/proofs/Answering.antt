@@ -41,8 +41,8 @@ fits_of : (table : Table) (number : ℕ) (es : List Entry) (id : ConnId) → id_
 fits_of table number [] id is each = absurd (none_id id is)
 fits_of table number (e ∷ es) id is each =
     ⊎_elim
-    (λ here. subst (λ (x : ConnId). ConnFits table.schema (conn_of table.conns x)) (some_id e.id id (sym (rw here refl) ∙ is)) each.0.fits)
-    (λ other. fits_of table number es id (sym (rw other refl) ∙ is) each.1)
+    (λ here. let at : id_at number (e ∷ es) ≡ Some e.id = rw here refl in subst (λ (x : ConnId). ConnFits table.schema (conn_of table.conns x)) (some_id e.id id (sym at ∙ is)) each.0.fits)
+    (λ other. let at : id_at number (e ∷ es) ≡ id_at number es = rw other refl in fits_of table number es id (sym at ∙ is) each.1)
     (cases_Bool (eqb e.number number))
 
 all_append : (schema : Schema) (xs ys : List Item) → AllByRecursion (ItemFits schema) xs → AllByRecursion (ItemFits schema) ys → AllByRecursion (ItemFits schema) (xs ++ ys)

@@ -102,7 +102,7 @@ id-listed (e ∷ es) (suc at) d under =
     (cases_Bool (same_id (get_or es at d).id e.id))
 
 -- an id that is listed is none that isn't
-apart : (ids : List ConnId) (id other : ConnId) → is_listed ids id ≡ true → is_listed ids other ≡ false → same_id other id ≡ false
+pub apart : (ids : List ConnId) (id other : ConnId) → is_listed ids id ≡ true → is_listed ids other ≡ false → same_id other id ≡ false
 apart ids id other is none =
     ⊎_elim
     (λ same. absurd (both_ways (is_listed ids other) none (subst (λ (x : ConnId). is_listed ids x ≡ true) (sym (same_id-is other id same)) is)))
@@ -115,10 +115,7 @@ apart ids id other is none =
 abbrev pub KeepsOthers : ConnId → List (ConnId × Conn) → List (ConnId × Conn) → Type 0
 KeepsOthers id old new = (other : ConnId) → same_id other id ≡ false → conn_at new other ≡ conn_at old other
 
-module _ (id : ConnId) (old new : Table) (rest : new ≡ record old { conns = new.conns }) (others : KeepsOthers id old.conns new.conns) where
-  schema-kept : new.schema ≡ old.schema
-  schema-kept = ap (λ (t : Table). t.schema) rest
-
+module _ (id : ConnId) (old new : Table) (schema-kept : new.schema ≡ old.schema) (others : KeepsOthers id old.conns new.conns) where
   linked-other : (e : Entry) → same_id e.id id ≡ false → linked new.conns e ≡ linked old.conns e
   linked-other e other = ap (λ (o : Option Conn). beside (conn_or_none o) e) (others e.id other)
 
@@ -151,7 +148,7 @@ module _ (id : ConnId) (old new : Table) (keeps : Keeps id old new) where
       let fits : ConnFits old.schema (conn_of old.conns id) = subst (λ (x : ConnId). ConnFits old.schema (conn_of old.conns x)) id_is is.fits in
       record {
         held = subst (λ (x : ConnId). is_held new.conns x ≡ true) (sym same) (keeps.held held);
-        fits = subst (λ (x : ConnId). ConnFits new.schema (conn_of new.conns x)) (sym same) (subst (λ (s : Schema). ConnFits s (conn_of new.conns id)) (sym (schema-kept id old new keeps.rest keeps.others)) (keeps.fits fits));
+        fits = subst (λ (x : ConnId). ConnFits new.schema (conn_of new.conns x)) (sym same) (subst (λ (s : Schema). ConnFits s (conn_of new.conns id)) (sym (ap (λ (t : Table). t.schema) keeps.rest)) (keeps.fits fits));
         ended = ap (λ (x : Entry). x.has_ended) link.rest ∙ is.ended ∙ sym link.ended;
       }
 
@@ -167,18 +164,18 @@ module _ (old new : Table) (d f : Entry) where
   each-set [] at under once keeps link each = absurd (omega arith)
   each-set (e ∷ es) zero under once keeps link each = (
     entry-own e.id old new keeps e f refl link each.0,
-    entries-other e.id old new keeps.rest keeps.others es (once-head e.id (ids_of es) once) each.1,
+    entries-other e.id old new (ap (λ (t : Table). t.schema) keeps.rest) keeps.others es (once-head e.id (ids_of es) once) each.1,
   )
   each-set (e ∷ es) (suc at) under once keeps link each =
       let id = (get_or es at d).id in
       let other : same_id e.id id ≡ false = apart (ids_of es) id e.id (id-listed es at d (omega arith)) (once-head e.id (ids_of es) once) in (
-        entry-other id old new keeps.rest keeps.others e other each.0,
+        entry-other id old new (ap (λ (t : Table). t.schema) keeps.rest) keeps.others e other each.0,
         each-set es at (omega arith) (once-tail e.id (ids_of es) once) keeps link each.1,
       )
 
   pub entries-set : (es : List Entry) (at : ℕ) → at < length es → Keeps (get_or es at d).id old new → KeepsLink (get_or es at d) f → AreEntries old es → AreEntries new (set es at f)
   entries-set es at under keeps link are = record {
-    valid = subst IsValid (sym (schema-kept (get_or es at d).id old new keeps.rest keeps.others)) are.valid;
+    valid = subst IsValid (sym (ap (λ (t : Table). t.schema) keeps.rest)) are.valid;
     once = ap are_once (ids-set es at d f (ap (λ (x : Entry). x.id) link.rest)) ∙ are.once;
     each = each-set es at under are.once keeps link are.each;
   }
@@ -186,12 +183,12 @@ module _ (old new : Table) (d f : Entry) where
   pub on-set : (number : ℕ) (g : Linked → Linked) (es : List Entry) (at : ℕ) → Found number es at → are_once (ids_of es) ≡ true → Keeps (get_or es at d).id old new → linked new.conns f ≡ g (linked old.conns (get_or es at d)) → all_linked new.conns (set es at f) ≡ on number g (all_linked old.conns es)
   on-set number g [] at is once keeps same = absurd is
   on-set number g (e ∷ es) zero is once keeps same =
-      rw (is, same, all_linked-other e.id old new keeps.rest keeps.others es (once-head e.id (ids_of es) once)) refl
+      rw (is, same, all_linked-other e.id old new (ap (λ (t : Table). t.schema) keeps.rest) keeps.others es (once-head e.id (ids_of es) once)) refl
   on-set number g (e ∷ es) (suc at) is once keeps same =
       let id = (get_or es at d).id in
       let under = below number es at is.1 in
       let other : same_id e.id id ≡ false = apart (ids_of es) id e.id (id-listed es at d under) (once-head e.id (ids_of es) once) in
-      rw (is.0, linked-other id old new keeps.rest keeps.others e other, on-set number g es at is.1 (once-tail e.id (ids_of es) once) keeps same) refl
+      rw (is.0, linked-other id old new (ap (λ (t : Table). t.schema) keeps.rest) keeps.others e other, on-set number g es at is.1 (once-tail e.id (ids_of es) once) keeps same) refl
 
 -- ---- ids by numbers
 
@@ -246,20 +243,20 @@ module _ (old new : Table) (d f : Entry) (reason : Reason) (rest : new ≡ recor
   pub on_sending-closed : (number : ℕ) (es : List Entry) (at : ℕ) → Found number es at → are_once (ids_of es) ≡ true → KeepsOthers (get_or es at d).id old.conns new.conns → (passed (linked old.conns (get_or es at d))).conn ≡ conns.Closed reason → all_linked new.conns (remove (set es at f) at) ≡ on_sending number (all_linked old.conns es)
   on_sending-closed number [] at is once others over = absurd is
   on_sending-closed number (e ∷ es) zero is once others over =
-      rw is (rw over (all_linked-other e.id old new rest others es (once-head e.id (ids_of es) once)))
+      rw is (rw over (all_linked-other e.id old new (ap (λ (t : Table). t.schema) rest) others es (once-head e.id (ids_of es) once)))
   on_sending-closed number (e ∷ es) (suc at) is once others over =
       let id = (get_or es at d).id in
       let under = below number es at is.1 in
       let other : same_id e.id id ≡ false = apart (ids_of es) id e.id (id-listed es at d under) (once-head e.id (ids_of es) once) in
-      rw (is.0, linked-other id old new rest others e other, on_sending-closed number es at is.1 (once-tail e.id (ids_of es) once) others over) refl
+      rw (is.0, linked-other id old new (ap (λ (t : Table). t.schema) rest) others e other, on_sending-closed number es at is.1 (once-tail e.id (ids_of es) once) others over) refl
 
   each-gone : (es : List Entry) (at : ℕ) → at < length es → are_once (ids_of es) ≡ true → KeepsOthers (get_or es at d).id old.conns new.conns → AllByRecursion (IsEntry old) es → AllByRecursion (IsEntry new) (remove (set es at f) at)
   each-gone [] at under once others each = absurd (omega arith)
-  each-gone (e ∷ es) zero under once others each = entries-other e.id old new rest others es (once-head e.id (ids_of es) once) each.1
+  each-gone (e ∷ es) zero under once others each = entries-other e.id old new (ap (λ (t : Table). t.schema) rest) others es (once-head e.id (ids_of es) once) each.1
   each-gone (e ∷ es) (suc at) under once others each =
       let id = (get_or es at d).id in
       let other : same_id e.id id ≡ false = apart (ids_of es) id e.id (id-listed es at d (omega arith)) (once-head e.id (ids_of es) once) in
-      (entry-other id old new rest others e other each.0, each-gone es at (omega arith) (once-tail e.id (ids_of es) once) others each.1)
+      (entry-other id old new (ap (λ (t : Table). t.schema) rest) others e other each.0, each-gone es at (omega arith) (once-tail e.id (ids_of es) once) others each.1)
 
 unlisted-gone : (f : Entry) (es : List Entry) (at : ℕ) (id : ConnId) → is_listed (ids_of es) id ≡ false → is_listed (ids_of (remove (set es at f) at)) id ≡ false
 unlisted-gone f [] zero id none = refl
@@ -279,7 +276,7 @@ once-gone f (e ∷ es) (suc at) once =
 pub entries_gone : (old new : Table) (e f : Entry) (number : ℕ) (es : List Entry) (at : ℕ) → Found number es at → e ≡ get_or es at e → new ≡ record old { conns = new.conns } → KeepsOthers e.id old.conns new.conns → AreEntries old es → AreEntries new (remove (set es at f) at)
 entries_gone old new e f number es at is read rest others are =
     record {
-      valid = subst IsValid (sym (schema-kept e.id old new rest others)) are.valid;
+      valid = subst IsValid (sym (ap (λ (t : Table). t.schema) rest)) are.valid;
       once = once-gone f es at are.once;
       each = each-gone old new e f (reasons.Ended) rest es at (below number es at is) are.once (subst (λ (x : Entry). KeepsOthers x.id old.conns new.conns) read others) are.each;
     }

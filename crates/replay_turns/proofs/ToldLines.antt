@@ -1,7 +1,7 @@
 -- What is told of a connection, line by line.
-use Rattle.std.proofs.Common.{◌≡◌, ◌+◌, ◌-◌, ◌≤◌, ℕ, zero, suc, List, [], ◌∷◌, ◌++◌, length, drop, Option, Some, refl, sym, ap, ◌∙◌, append_assoc}
+use Rattle.std.proofs.Common.{◌≡◌, ◌+◌, ◌-◌, ◌≤◌, ℕ, zero, suc, List, [], ◌∷◌, ◌++◌, length, take, drop, arith, length-drop, Option, Some, refl, sym, ap, ◌∙◌, append_assoc}
 use Rattle.std.specs.Prelude.{codes}
-use Rattle.std.proofs.lemmas.List.{append-nil}
+use Rattle.std.proofs.lemmas.List.{append-nil, take_all}
 use Rattle.line_pipeline.specs.declared.conns.Conn.{Conn}
 use Rattle.line_pipeline.specs.declared.conns.Conn.TheVariants as conns
 use Rattle.line_pipeline.specs.declared.reasons.Reason.{Reason}
@@ -15,9 +15,10 @@ drop_front [] ys = refl
 drop_front (x ∷ xs) ys = drop_front xs ys
 
 -- the bytes that were sent since
-pub bytes_since : (old new tail before now : List ℕ) → before ≡ old → now ≡ new → new ≡ old ++ tail → drop (length before) now ≡ tail
+pub bytes_since : (old new tail before now : List ℕ) → before ≡ old → now ≡ new → new ≡ old ++ tail → take (length now - length before) (drop (length before) now) ≡ tail
 bytes_since old new tail before now was is grew =
-    ap (λ (bytes : List ℕ). drop (length bytes) now) was ∙ ap (drop (length old)) (is ∙ grew) ∙ drop_front old tail
+    take_all (length now - length before) (drop (length before) now) (omega (arith, length-drop (length before) now))
+    ∙ ap (λ (bytes : List ℕ). drop (length bytes) now) was ∙ ap (drop (length old)) (is ∙ grew) ∙ drop_front old tail
 
 told_is : (number : ℕ) (l : Linked) (o : Option Linked) (conn : Conn) → o ≡ Some l → l.number ≡ number → (passed l).conn ≡ conn → told o ≡ sent_line number (bytes_of l) ++ closed_line number conn
 told_is number l o conn at is over =

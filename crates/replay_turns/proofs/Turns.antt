@@ -31,12 +31,24 @@ some_id a b is = cc
 none_id : (a : ConnId) → ◌≡◌ {A = Option ConnId} None (Some a) → ⊥
 none_id a is = cc
 
+id_here : (number : ℕ) (e : Entry) (es : List Entry) → eqb e.number number ≡ true → id_at number (e ∷ es) ≡ Some e.id
+id_here number e es is = rw is refl
+
+id_more : (number : ℕ) (e : Entry) (es : List Entry) → eqb e.number number ≡ false → id_at number (e ∷ es) ≡ id_at number es
+id_more number e es is = rw is refl
+
+linked_here : (cs : List (ConnId × Conn)) (number : ℕ) (e : Entry) (es : List Entry) → eqb e.number number ≡ true → linked_at number (all_linked cs (e ∷ es)) ≡ Some (linked cs e)
+linked_here cs number e es is = rw is refl
+
+linked_more : (cs : List (ConnId × Conn)) (number : ℕ) (e : Entry) (es : List Entry) → eqb e.number number ≡ false → linked_at number (all_linked cs (e ∷ es)) ≡ linked_at number (all_linked cs es)
+linked_more cs number e es is = rw is refl
+
 missing_id : (number : ℕ) (es : List Entry) → id_at number es ≡ None → Missing number es
 missing_id number [] is = tt
 missing_id number (e ∷ es) is =
     ⊎_elim
-    (λ here. absurd (none_id e.id (sym is ∙ rw here refl)))
-    (λ other. (other, missing_id number es (sym (rw other refl) ∙ is)))
+    (λ here. absurd (none_id e.id (sym is ∙ id_here number e es here)))
+    (λ other. (other, missing_id number es (sym (id_more number e es other) ∙ is)))
     (cases_Bool (eqb e.number number))
 
 id_listed : (number : ℕ) (es : List Entry) (id : ConnId) → id_at number es ≡ Some id → is_listed (ids_of es) id ≡ true
@@ -44,11 +56,11 @@ id_listed number [] id is = absurd (none_id id is)
 id_listed number (e ∷ es) id is =
     ⊎_elim
     (λ here.
-    let same : e.id ≡ id = some_id e.id id (sym (rw here refl) ∙ is) in
+    let same : e.id ≡ id = some_id e.id id (sym (id_here number e es here) ∙ is) in
     let first : same_id id e.id ≡ true = subst (λ (x : ConnId). same_id x e.id ≡ true) same (same_id-refl e.id) in
     rw first refl)
     (λ other.
-    let later = id_listed number es id (sym (rw other refl) ∙ is) in
+    let later = id_listed number es id (sym (id_more number e es other) ∙ is) in
     ⊎_elim (λ first. rw first refl) (λ another. rw another later) (cases_Bool (same_id id e.id)))
     (cases_Bool (eqb e.number number))
 
@@ -56,10 +68,10 @@ linked_by : (cs : List (ConnId × Conn)) (number : ℕ) (es : List Entry) (id : 
 linked_by cs number [] id is = absurd (none_id id is)
 linked_by cs number (e ∷ es) id is =
     ⊎_elim
-    (λ here. (e, rw here refl, some_id e.id id (sym (rw here refl) ∙ is)))
+    (λ here. (e, linked_here cs number e es here, some_id e.id id (sym (id_here number e es here) ∙ is)))
     (λ other.
-    let later = linked_by cs number es id (sym (rw other refl) ∙ is) in
-    (later.0, rw other later.1, later.2))
+    let later = linked_by cs number es id (sym (id_more number e es other) ∙ is) in
+    (later.0, linked_more cs number e es other ∙ later.1, later.2))
     (cases_Bool (eqb e.number number))
 
 -- two numbers, two ids
@@ -71,33 +83,31 @@ differ a b (e ∷ es) i j once first second different =
     ⊎_elim
     (λ b_here. absurd (both_ways (eqb a b) different (eq-eqb a b (sym (eqb-true e.number a a_here) ∙ eqb-true e.number b b_here))))
     (λ b_other.
-    let i_is : e.id ≡ i = some_id e.id i (sym (rw a_here refl) ∙ first) in
-    let j_in = id_listed b es j (sym (rw b_other refl) ∙ second) in
+    let i_is : e.id ≡ i = some_id e.id i (sym (id_here a e es a_here) ∙ first) in
+    let j_in = id_listed b es j (sym (id_more b e es b_other) ∙ second) in
     subst (λ (x : ConnId). same_id x j ≡ false) i_is (apart (ids_of es) j e.id j_in (once-head e.id (ids_of es) once)))
     (cases_Bool (eqb e.number b)))
     (λ a_other.
     ⊎_elim
     (λ b_here.
-    let j_is : e.id ≡ j = some_id e.id j (sym (rw b_here refl) ∙ second) in
-    let i_in = id_listed a es i (sym (rw a_other refl) ∙ first) in
+    let j_is : e.id ≡ j = some_id e.id j (sym (id_here b e es b_here) ∙ second) in
+    let i_in = id_listed a es i (sym (id_more a e es a_other) ∙ first) in
     same_id-other j i (subst (λ (x : ConnId). same_id x i ≡ false) j_is (apart (ids_of es) i e.id i_in (once-head e.id (ids_of es) once))))
-    (λ b_other. differ a b es i j (once-tail e.id (ids_of es) once) (sym (rw a_other refl) ∙ first) (sym (rw b_other refl) ∙ second) different)
+    (λ b_other. differ a b es i j (once-tail e.id (ids_of es) once) (sym (id_more a e es a_other) ∙ first) (sym (id_more b e es b_other) ∙ second) different)
     (cases_Bool (eqb e.number b)))
     (cases_Bool (eqb e.number a))
+
+not_next : (number next : ℕ) (numbers : List ℕ) (es : List Entry) (id : ConnId) → are_once (ids_of es) ≡ true → id_at number es ≡ Some id → eqb next number ≡ false → is_listed (ids_at es numbers) id ≡ false → (o : Option ConnId) → id_at next es ≡ o → is_listed (option_to_list o ++ ids_at es numbers) id ≡ false
+not_next number next numbers es id once is different later None at = later
+not_next number next numbers es id once is different later (Some other) at =
+    let apart_too : same_id id other ≡ false = same_id-other other id (differ next number es other id once at is different) in
+    rw apart_too later
 
 not_listed : (number : ℕ) (numbers : List ℕ) (es : List Entry) (id : ConnId) → are_once (ids_of es) ≡ true → id_at number es ≡ Some id → list_any (λ y. nat_eq y number) numbers ≡ false → is_listed (ids_at es numbers) id ≡ false
 not_listed number [] es id once is none = refl
 not_listed number (next ∷ numbers) es id once is none =
     let parts = or_parts (nat_eq next number) (list_any (λ y. nat_eq y number) numbers) none in
-    let later = not_listed number numbers es id once is parts.1 in
-    by_next (id_at next es) refl
-  where
-  by_next : (o : Option ConnId) → id_at next es ≡ o → is_listed (ids_at es (next ∷ numbers)) id ≡ false
-  by_next None at = rw at (not_listed number numbers es id once is (or_parts (nat_eq next number) (list_any (λ y. nat_eq y number) numbers) none).1)
-  by_next (Some other) at =
-      let parts = or_parts (nat_eq next number) (list_any (λ y. nat_eq y number) numbers) none in
-      let different : same_id id other ≡ false = same_id-other other id (differ next number es other id once at is parts.0) in
-      rw at (rw different (not_listed number numbers es id once is parts.1))
+    not_next number next numbers es id once is parts.0 (not_listed number numbers es id once is parts.1) (id_at next es) refl
 
 once_with_id : (number : ℕ) (numbers : List ℕ) (es : List Entry) (o : Option ConnId) → are_once (ids_of es) ≡ true → id_at number es ≡ o → list_any (λ y. nat_eq y number) numbers ≡ false → are_once (ids_at es numbers) ≡ true → are_once (option_to_list o ++ ids_at es numbers) ≡ true
 once_with_id number numbers es None once is none later = later
@@ -122,12 +132,12 @@ on-changed t cs f number id (e ∷ es) once is held =
     let new : Table = record t { conns = changed id f cs } in
     ⊎_elim
     (λ here.
-    let same : e.id ≡ id = some_id e.id id (sym (rw here refl) ∙ is) in
+    let same : e.id ≡ id = some_id e.id id (sym (id_here number e es here) ∙ is) in
     let none : is_listed (ids_of es) id ≡ false = subst (λ (x : ConnId). is_listed (ids_of es) x ≡ false) same (once-head e.id (ids_of es) once) in
     let own : conn_of (changed id f cs) e.id ≡ f (conn_of cs e.id) = ap (conn_of (changed id f cs)) same ∙ conn_of-own f id old new refl held ∙ ap (λ (x : ConnId). f (conn_of cs x)) (sym same) in
     rw here (ap (λ (conn : Conn). beside conn e ∷ all_linked cs es) (sym own) ∙ ap (λ (ls : List Linked). linked (changed id f cs) e ∷ ls) (sym (all_linked-other id old new refl (λ other different. conn_at-changed f id other cs different) es none))))
     (λ other.
-    let at : id_at number es ≡ Some id = sym (rw other refl) ∙ is in
+    let at : id_at number es ≡ Some id = sym (id_more number e es other) ∙ is in
     let different : same_id e.id id ≡ false = apart (ids_of es) id e.id (id_listed number es id at) (once-head e.id (ids_of es) once) in
     let kept : linked (changed id f cs) e ≡ linked cs e = ap (λ (o : Option Conn). beside (conn_or_none o) e) (conn_at-changed f id e.id cs different) in
     rw (other, kept) (ap (λ (ls : List Linked). linked cs e ∷ ls) (on-changed t cs f number id es (once-tail e.id (ids_of es) once) at held)))
@@ -186,8 +196,8 @@ held_of : (number : ℕ) (cs : List (ConnId × Conn)) (es : List Entry) (id : Co
 held_of number cs [] id is held = absurd (none_id id is)
 held_of number cs (e ∷ es) id is held =
     ⊎_elim
-    (λ here. subst (λ (x : ConnId). is_held cs x ≡ true) (some_id e.id id (sym (rw here refl) ∙ is)) held.0)
-    (λ other. held_of number cs es id (sym (rw other refl) ∙ is) held.1)
+    (λ here. subst (λ (x : ConnId). is_held cs x ≡ true) (some_id e.id id (sym (id_here number e es here) ∙ is)) held.0)
+    (λ other. held_of number cs es id (sym (id_more number e es other) ∙ is) held.1)
     (cases_Bool (eqb e.number number))
 
 module _ (t : Table) (schema : Schema) (es : List Entry) (once : are_once (ids_of es) ≡ true) (final : List (ConnId × Conn)) where
@@ -213,18 +223,13 @@ module _ (t : Table) (schema : Schema) (es : List Entry) (once : are_once (ids_o
       was ∙ first ∙ sym (replied_other schema f id cs later ids x (conn_of cs x) none) ∙ ap (replied_conn schema (changed id f cs) later ids x) (sym kept))
       (cases_Bool (same_id x id))
 
-  pub all_replied-is : (numbers : List ℕ) (cs : List (ConnId × Conn)) (db : Database) → are_once (ids_at es numbers) ≡ true → AllByRecursion (λ (e : Entry). is_held cs e.id ≡ true) es → IsFinal cs db (ids_at es numbers) → all_replied schema numbers db (all_linked cs es) ≡ (after_runs db (groups schema cs (ids_at es numbers)), all_linked final es)
-  step : (number : ℕ) (numbers : List ℕ) (cs : List (ConnId × Conn)) (db : Database) (o : Option ConnId) → id_at number es ≡ o → are_once (option_to_list o ++ ids_at es numbers) ≡ true → AllByRecursion (λ (e : Entry). is_held cs e.id ≡ true) es → IsFinal cs db (option_to_list o ++ ids_at es numbers) → all_replied schema (number ∷ numbers) db (all_linked cs es) ≡ (after_runs db (groups schema cs (option_to_list o ++ ids_at es numbers)), all_linked final es)
-
-  all_replied-is [] cs db ids held is = ap (λ (ls : List Linked). (db, ls)) (sym (same_linked cs final es held is))
-  all_replied-is (number ∷ numbers) cs db ids held is = step number numbers cs db (id_at number es) refl ids held is
-
-  step number numbers cs db None at ids held is =
+  step : (number : ℕ) (numbers : List ℕ) (cs : List (ConnId × Conn)) (db : Database) → ((later : List (ConnId × Conn)) (d : Database) → are_once (ids_at es numbers) ≡ true → AllByRecursion (λ (e : Entry). is_held later e.id ≡ true) es → IsFinal later d (ids_at es numbers) → all_replied schema numbers d (all_linked later es) ≡ (after_runs d (groups schema later (ids_at es numbers)), all_linked final es)) → (o : Option ConnId) → id_at number es ≡ o → are_once (option_to_list o ++ ids_at es numbers) ≡ true → AllByRecursion (λ (e : Entry). is_held cs e.id ≡ true) es → IsFinal cs db (option_to_list o ++ ids_at es numbers) → all_replied schema (number ∷ numbers) db (all_linked cs es) ≡ (after_runs db (groups schema cs (option_to_list o ++ ids_at es numbers)), all_linked final es)
+  step number numbers cs db again None at ids held is =
       let none = missing_id number es at in
       ap (λ (o : Option Linked). all_replied schema numbers (rows_after schema db o) (on number (with_replies schema db) (all_linked cs es))) (linked_at-missing number cs es none)
       ∙ ap (all_replied schema numbers db) (on-missing number (with_replies schema db) cs es none)
-      ∙ all_replied-is numbers cs db ids held is
-  step number numbers cs db (Some id) at ids held is =
+      ∙ again cs db ids held is
+  step number numbers cs db again (Some id) at ids held is =
       let f = replied schema db in
       let held_id = held_of number cs es id at held in
       let none = once-head id (ids_at es numbers) ids in
@@ -233,6 +238,10 @@ module _ (t : Table) (schema : Schema) (es : List Entry) (once : are_once (ids_o
       ap (λ (o : Option Linked). all_replied schema numbers (rows_after schema db o) (on number (with_replies schema db) (all_linked cs es))) by.1
       ∙ ap (λ (x : ConnId). all_replied schema numbers (after_all db (asked schema (conn_of cs x))) (on number (with_replies schema db) (all_linked cs es))) by.2
       ∙ ap (all_replied schema numbers later) (on-changed t cs f number id es once at held_id)
-      ∙ all_replied-is numbers (changed id f cs) later (once-tail id (ids_at es numbers) ids) (each_held f id cs es held) (final_on cs db id (ids_at es numbers) held_id none is)
+      ∙ again (changed id f cs) later (once-tail id (ids_at es numbers) ids) (each_held f id cs es held) (final_on cs db id (ids_at es numbers) held_id none is)
       ∙ ap (λ (runs : List (ConnId × List ItemKind)). (after_runs later runs, all_linked final es)) (groups_other schema f id cs (ids_at es numbers) none)
       ∙ ap (λ (d : Database). (d, all_linked final es)) (sym (runs_with db id (kinds_at schema cs id) (groups schema cs (ids_at es numbers))))
+
+  pub all_replied-is : (numbers : List ℕ) (cs : List (ConnId × Conn)) (db : Database) → are_once (ids_at es numbers) ≡ true → AllByRecursion (λ (e : Entry). is_held cs e.id ≡ true) es → IsFinal cs db (ids_at es numbers) → all_replied schema numbers db (all_linked cs es) ≡ (after_runs db (groups schema cs (ids_at es numbers)), all_linked final es)
+  all_replied-is [] cs db ids held is = ap (λ (ls : List Linked). (db, ls)) (sym (same_linked cs final es held is))
+  all_replied-is (number ∷ numbers) cs db ids held is = step number numbers cs db (λ later d. all_replied-is numbers later d) (id_at number es) refl ids held is

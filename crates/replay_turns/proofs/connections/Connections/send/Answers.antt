@@ -1,5 +1,6 @@
 use Rattle.std.proofs.Common.{◌≡◌, ◌∙◌, ◌++◌, ℕ, List, Option, Some, length, drop, set, sym, ap, refl, subst, arith}
 use Rattle.std.specs.List.{remove}
+use Rattle.std.specs.Prelude.{codes}
 use Rattle.std.proofs.lemmas.List.{append-nil}
 use Rattle.line_pipeline.proofs.TableLemmas.{kept}
 use Rattle.line_pipeline.specs.declared.conns.Conn.{Conn}
@@ -115,7 +116,7 @@ returns-in_ok-push_line-2-clause-text c =
     told-closed c.args.text.now.items c.push_line.new.text.items c.push_line-in-Closed.new.text.items c.args.number (linked t.conns e) _ _ c.in-Closed.reason at
     (ap (λ (x : Entry). x.number) c.index_mut-entry.ensures.value ∙ found-number c.args.number es c.in-Some.at e place)
     (bytes_since e.link.sent f.link.sent (bytes_of (linked t.conns e)) c.sent-before.result.now c.sent.result.now c.sent-before.ensures c.sent.ensures c.in_ok-pass.ensures.sent)
-    over c.in_ok-push_line.ensures (c.in_ok-push_line-2.ensures ∙ ap (λ (w : List ℕ). c.push_line.new.text.items ++ line_of _ c.args.number w) c.reason_word.ensures)
+    over c.in_ok-push_line.ensures (c.in_ok-push_line-2.ensures ∙ ap (λ (w : List ℕ). c.push_line.new.text.items ++ line_of (codes "closed") c.args.number w) c.reason_word.ensures)
 
 pub returns-in_default-state-clause-conns : goal.returns-in_default-state-clause-conns
 returns-in_default-state-clause-conns c =
