@@ -13,6 +13,7 @@ use Rattle.open_index.specs.declared.codes.Code.TheVariants as refused
 use Rattle.open_index.specs.declared.handles.Handle.{Handle}
 use Rattle.open_index.specs.declared.requests.Auth.{Auth}
 use Rattle.open_index.specs.declared.requests.Resolved.{Resolved}
+use Rattle.open_index.specs.declared.requests.Request.{Request}
 use Rattle.open_index.specs.Refusal.{◌>>=◌, or_refuse}
 use Rattle.open_index.specs.Tokens.{is_word, u32_at}
 use Rattle.open_index.specs.Line.{command_of, request_of, tells, is_secret, is_locked, command_means, tokens_mean, spelled, line_means, becomes, reads}
@@ -35,45 +36,69 @@ use Rattle.replay_turns.specs.Replying.{asked}
 abbrev BothFit : Schema → Resolved × List (ℕ × Handle) × Auth → Type 0
 BothFit schema r = KindFits schema (kind_of r.0) × HandlesFit schema r.1
 
-by_result : {A B : Type 0} (P : Result B Code → Type 0) (k : A → Result B Code) (r : Result A Code) → ((code : Code) → P (Err code)) → ((x : A) → r ≡ Ok x → P (k x)) → P (r >>= k)
-by_result P k (Err code) refused goes = refused code
-by_result P k (Ok x) refused goes = goes x refl
-
-by_test : {B : Type 0} (P : B → Type 0) (b : Bool) (x y : B) → P x → P y → P (if b then x else y)
-by_test P true x y yes no = yes
-by_test P false x y yes no = no
+tells_by : (schema : Schema) (handles : List (ℕ × Handle)) (auth : Auth) (kind key : Token) (a b : Bool) → is_word (codes "1") kind ≡ a → is_secret auth.secret key ≡ b → HandlesFit schema handles → BothFit schema (becomes handles auth (tells auth (kind ∷ key ∷ [])))
+unfolding tells
+tells_by schema handles auth kind key false b first second fits = rw first (tt, fits)
+tells_by schema handles auth kind key true true first second fits = rw (first, second) (tt, fits)
+tells_by schema handles auth kind key true false first second fits = rw (first, second) (tt, fits)
 
 tells_fit : (schema : Schema) (handles : List (ℕ × Handle)) (auth : Auth) (ts : List Token) → HandlesFit schema handles → BothFit schema (becomes handles auth (tells auth ts))
 unfolding tells
 tells_fit schema handles auth [] fits = (tt, fits)
 tells_fit schema handles auth (a ∷ []) fits = (tt, fits)
-tells_fit schema handles auth (kind ∷ key ∷ []) fits =
-    by_test (λ m. BothFit schema (becomes handles auth m)) (not (is_word (codes "1") kind)) _ _ (tt, fits)
-    (by_test (λ m. BothFit schema (becomes handles auth m)) (is_secret auth.secret key) _ _ (tt, fits) (tt, fits))
+tells_fit schema handles auth (kind ∷ key ∷ []) fits = tells_by schema handles auth kind key (is_word (codes "1") kind) (is_secret auth.secret key) refl refl fits
 tells_fit schema handles auth (a ∷ b ∷ c ∷ ts) fits = (tt, fits)
 
-module _ (schema : Schema) (valid : IsValid schema) where
-  tokens_fit : (port : Port) (handles : List (ℕ × Handle)) (auth : Auth) (ts : List Token) → HandlesFit schema handles → BothFit schema (becomes handles auth (tokens_mean schema port handles auth ts))
-  unfolding tokens_mean command_of command_means
-  tokens_fit port handles auth [] fits = (tt, fits)
-  tokens_fit port handles auth (t ∷ ts) fits =
-      by_test (λ c. BothFit schema (becomes handles auth (c >>= _))) (is_word (codes "P") t) _ _
-      (by_test (λ m. BothFit schema (becomes handles auth m)) (is_locked auth) _ _ (tt, fits)
-      (by_result (λ m. BothFit schema (becomes handles auth m)) _ (open_of schema handles ts) (λ code. (tt, fits))
-      (λ o e. (tt, opened_fit schema handles (opened handles o.0 o.1) o.0 o.1 fits (open_fits schema handles ts o valid e) refl))))
-      (by_test (λ c. BothFit schema (becomes handles auth (c >>= _))) (is_word (codes "A") t) _ _
-      (tells_fit schema handles auth ts fits)
-      (by_result (λ c. BothFit schema (becomes handles auth (c >>= _))) _ (or_refuse refused.Cmd (u32_at t)) (λ code. (tt, fits))
-      (λ id found.
-      by_test (λ m. BothFit schema (becomes handles auth m)) (is_locked auth) _ _ (tt, fits)
-      (by_result (λ m. BothFit schema (becomes handles auth m)) _ (request_of port handles id ts) (λ code. (tt, fits))
-      (λ r e. (request_fits schema port handles id ts r fits e, fits))))))
+module _ (schema : Schema) (valid : IsValid schema) (port : Port) (handles : List (ℕ × Handle)) (auth : Auth) (fits : HandlesFit schema handles) where
+  abbrev Goal : List Token → Type 0
+  Goal ts = BothFit schema (becomes handles auth (tokens_mean schema port handles auth ts))
 
+  opens : (t : Token) (ts : List Token) → is_word (codes "P") t ≡ true → (b : Bool) → is_locked auth ≡ b → (o : Result (ℕ × Handle) Code) → open_of schema handles ts ≡ o → Goal (t ∷ ts)
+  unfolding tokens_mean command_of command_means
+  opens t ts word true locked o e = rw (word, locked) (tt, fits)
+  opens t ts word false free (Err code) e = rw (word, free, e) (tt, fits)
+  opens t ts word false free (Ok o) e = rw (word, free, e) (tt, opened_fit schema handles (opened handles o.0 o.1) o.0 o.1 fits (open_fits schema handles ts o valid e) refl)
+
+  tells_it : (t : Token) (ts : List Token) → is_word (codes "P") t ≡ false → is_word (codes "A") t ≡ true → Goal (t ∷ ts)
+  unfolding tokens_mean command_of command_means
+  tells_it t ts other word = rw (other, word) (tells_fit schema handles auth ts fits)
+
+  no_id : (t : Token) (ts : List Token) → is_word (codes "P") t ≡ false → is_word (codes "A") t ≡ false → u32_at t ≡ None → Goal (t ∷ ts)
+  unfolding tokens_mean command_of command_means
+  no_id t ts other another none = rw (other, another, none) (tt, fits)
+
+  uses : (t : Token) (ts : List Token) (id : ℕ) → is_word (codes "P") t ≡ false → is_word (codes "A") t ≡ false → u32_at t ≡ Some id → (b : Bool) → is_locked auth ≡ b → (r : Result Request Code) → request_of port handles id ts ≡ r → Goal (t ∷ ts)
+  unfolding tokens_mean command_of command_means
+  uses t ts id other another some true locked r e = rw (other, another, some, locked) (tt, fits)
+  uses t ts id other another some false free (Err code) e = rw (other, another, some, free, e) (tt, fits)
+  uses t ts id other another some false free (Ok r) e = rw (other, another, some, free, e) (request_fits schema port handles id ts r fits e, fits)
+
+  by_id : (t : Token) (ts : List Token) → is_word (codes "P") t ≡ false → is_word (codes "A") t ≡ false → (i : Option ℕ) → u32_at t ≡ i → Goal (t ∷ ts)
+  by_id t ts other another None none = no_id t ts other another none
+  by_id t ts other another (Some id) some = uses t ts id other another some (is_locked auth) refl (request_of port handles id ts) refl
+
+  by_words : (t : Token) (ts : List Token) (a b : Bool) → is_word (codes "P") t ≡ a → is_word (codes "A") t ≡ b → Goal (t ∷ ts)
+  by_words t ts true b first second = opens t ts first (is_locked auth) refl (open_of schema handles ts) refl
+  by_words t ts false true first second = tells_it t ts first second
+  by_words t ts false false first second = by_id t ts first second (u32_at t) refl
+
+  no_tokens : Goal []
+  unfolding tokens_mean
+  no_tokens = (tt, fits)
+
+  tokens_fit : (ts : List Token) → Goal ts
+  tokens_fit [] = no_tokens
+  tokens_fit (t ∷ ts) = by_words t ts (is_word (codes "P") t) (is_word (codes "A") t) refl refl
+
+  line_by : (line : List ℕ) (r : Result (List Token) ℕ) → line_at line ≡ r → BothFit schema (becomes handles auth (line_means schema port handles auth line))
+  unfolding line_means
+  line_by line (Err place) is = rw is (tt, fits)
+  line_by line (Ok ts) is = rw is (tokens_fit ts)
+
+module _ (schema : Schema) (valid : IsValid schema) where
   -- a line
   line_fit : (port : Port) (handles : List (ℕ × Handle)) (auth : Auth) (line : List ℕ) → HandlesFit schema handles → let r = reads schema port handles auth line in KindFits schema (kind_of r.0) × HandlesFit schema r.1
-  unfolding line_means
-  line_fit port handles auth line fits =
-      by_result (λ m. BothFit schema (becomes handles auth m)) (tokens_mean schema port handles auth) (spelled (line_at line)) (λ code. (tt, fits)) (λ ts e. tokens_fit port handles auth ts fits)
+  line_fit port handles auth line fits = line_by schema valid port handles auth fits line (line_at line) refl
 
   -- lines
   kinds_fit : (port : Port) (handles : List (ℕ × Handle)) (auth : Auth) (lines : List (List ℕ)) → HandlesFit schema handles → AllByRecursion (KindFits schema) (kinds_of schema port handles auth lines)
