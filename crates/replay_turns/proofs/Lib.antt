@@ -9,3 +9,6 @@ pub mod Settling
 pub mod Calls
 mod Shows
 mod Plays
+pub mod ToldLines
+pub mod Turns
+pub mod Answering

@@ -30,20 +30,21 @@ use Rattle.replay_turns.proofs.Runs.{conns_in, kinds_at, groups, with_group, ite
 abbrev pub where_listed : List ConnId → (Conn → Conn) → ConnId → Conn → Conn
 where_listed ids f x conn = if is_listed ids x then f conn else conn
 
+all_head : (f : Conn → Conn) (ids : List ConnId) (c : ConnId × Conn) (cs : List (ConnId × Conn)) (x : ConnId) → conn_at (all_changed ids f cs) x ≡ option_map (where_listed ids f x) (conn_at cs x) → (b : Bool) → is_listed ids c.0 ≡ b → conn_at (all_changed ids f (c ∷ cs)) x ≡ option_map (where_listed ids f x) (conn_at (c ∷ cs) x)
+all_head f ids c cs x later true is =
+    ⊎_elim
+    (λ same. let here : is_listed ids x ≡ true = subst (λ (i : ConnId). is_listed ids i ≡ true) (same_id-is c.0 x same) is in rw is (rw same (rw here refl)))
+    (λ other. rw is (rw other later))
+    (cases_Bool (same_id c.0 x))
+all_head f ids c cs x later false is =
+    ⊎_elim
+    (λ same. let here : is_listed ids x ≡ false = subst (λ (i : ConnId). is_listed ids i ≡ false) (same_id-is c.0 x same) is in rw is (rw same (rw here refl)))
+    (λ other. rw is (rw other later))
+    (cases_Bool (same_id c.0 x))
+
 pub conn_at-all : (f : Conn → Conn) (ids : List ConnId) (cs : List (ConnId × Conn)) (x : ConnId) → conn_at (all_changed ids f cs) x ≡ option_map (where_listed ids f x) (conn_at cs x)
 conn_at-all f ids [] x = refl
-conn_at-all f ids (c ∷ cs) x = by (is_listed ids c.0) refl where
-  by : (b : Bool) → is_listed ids c.0 ≡ b → conn_at (all_changed ids f (c ∷ cs)) x ≡ option_map (where_listed ids f x) (conn_at (c ∷ cs) x)
-  by true is =
-      ⊎_elim
-      (λ same. let here : is_listed ids x ≡ true = subst (λ (i : ConnId). is_listed ids i ≡ true) (same_id-is c.0 x same) is in rw is (rw same (rw here refl)))
-      (λ other. rw is (rw other (conn_at-all f ids cs x)))
-      (cases_Bool (same_id c.0 x))
-  by false is =
-      ⊎_elim
-      (λ same. let here : is_listed ids x ≡ false = subst (λ (i : ConnId). is_listed ids i ≡ false) (same_id-is c.0 x same) is in rw is (rw same (rw here refl)))
-      (λ other. rw is (rw other (conn_at-all f ids cs x)))
-      (cases_Bool (same_id c.0 x))
+conn_at-all f ids (c ∷ cs) x = all_head f ids c cs x (conn_at-all f ids cs x) (is_listed ids c.0) refl
 
 pub conn_at-told : (parts : List Part) (cs : List (ConnId × Conn)) (x : ConnId) → conn_at (all_told parts cs) x ≡ option_map (λ (conn : Conn). told parts (x, conn)) (conn_at cs x)
 conn_at-told parts [] x = refl
@@ -151,6 +152,12 @@ module _ (schema : Schema) (cs : List (ConnId × Conn)) where
       ∙ used_after text (took schema conn)
       ∙ sym (rw asks refl)
 
+  replied_here : (db : Database) (id : ConnId) (ids : List ConnId) (x : ConnId) (conn : Conn) → same_id x id ≡ true → replied_conn schema cs db (id ∷ ids) x conn ≡ replied schema db conn
+  replied_here db id ids x conn same = rw same refl
+
+  replied_later : (db : Database) (id : ConnId) (ids : List ConnId) (x : ConnId) (conn : Conn) → same_id x id ≡ false → replied_conn schema cs db (id ∷ ids) x conn ≡ replied_conn schema cs (after_all db (kinds_at schema cs id)) ids x conn
+  replied_later db id ids x conn other = rw other refl
+
   pub settled_is : (db : Database) (ids : List ConnId) (x : ConnId) (conn : Conn) → are_once ids ≡ true → conn ≡ conn_of cs x → settled_conn schema cs db ids x conn ≡ replied_conn schema cs db ids x conn
   settled_is db [] x conn once found = refl
   settled_is db (id ∷ ids) x conn once found =
@@ -158,6 +165,6 @@ module _ (schema : Schema) (cs : List (ConnId × Conn)) where
       (λ same.
       let here : x ≡ id = same_id-is x id same in
       let none : is_listed ids x ≡ false = subst (λ (i : ConnId). is_listed ids i ≡ false) (sym here) (once-head id ids once) in
-      rw same (ap (λ (i : ConnId). settled_conn schema cs db (i ∷ ids) x conn) (sym here) ∙ own_by db ids x conn (kinds_at schema cs x) none found refl))
-      (λ other. rw other (step_other db id ids x conn other ∙ settled_is (after_all db (kinds_at schema cs id)) ids x conn (once-tail id ids once) found))
+      ap (λ (i : ConnId). settled_conn schema cs db (i ∷ ids) x conn) (sym here) ∙ own_by db ids x conn (kinds_at schema cs x) none found refl ∙ sym (replied_here db id ids x conn same))
+      (λ other. step_other db id ids x conn other ∙ settled_is (after_all db (kinds_at schema cs id)) ids x conn (once-tail id ids once) found ∙ sym (replied_later db id ids x conn other))
       (cases_Bool (same_id x id))

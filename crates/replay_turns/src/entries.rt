@@ -46,8 +46,20 @@ pub fn ids_at(
 fn push_id(ids: &mut Vec<ConnId>, entries: &[Entry], number: u32) -> Result<(), AllocError>
     ensures { OnOk result (ids.new.items ≡ ids.old.items ++ option_to_list (id_at number entries.now)) }
 {
-    match place_of(entries, number) {
-        Some(at) => Ok(ids.push(entries[at].id)?),
+    match id_at(entries, number) {
+        Some(id) => Ok(ids.push(id)?),
         None => Ok(()),
     }
+}
+
+/// The id of the entry with this number.
+fn id_at(entries: &[Entry], number: u32) -> Option<ConnId>
+    ensures { result ≡ id_at number entries.now }
+{
+    for entry in entries {
+        if entry.number == number {
+            return Some(entry.id);
+        }
+    }
+    None
 }
