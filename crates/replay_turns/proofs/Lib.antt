@@ -10,3 +10,4 @@ pub mod Calls
 pub mod ToldLines
 pub mod Turns
 pub mod Answering
+pub mod Joined

@@ -1,9 +1,9 @@
 //! The rows of a table, printed.
-ghost use Rattle.std.specs.Prelude.{◌≡◌, ◌<◌, ◌++◌, ◌∷◌, [], length, get_or, OnOk};
+ghost use Rattle.std.specs.Prelude.{◌≡◌, ◌<◌, ◌≤◌, ◌++◌, ◌∷◌, [], length, get_or, OnOk};
 ghost use Rattle.hs_token.specs.Spelling.{token_spelled, behind_tabs};
 ghost use Rattle.row_types.specs.Valid.{is_primary};
 ghost use Rattle.batch_answers.specs.Database.{database_of};
-ghost use Rattle.replay_turns.specs.Shown.{table_named, value_token, row_shown, all_shown};
+ghost use Rattle.replay_turns.specs.Shown.{table_named, primary_place, value_token, row_shown, all_shown};
 
 use hs_token::{push_integer, push_text};
 use row_types::{IndexDef, IndexKind, Row, TableDef, Value};
@@ -12,6 +12,7 @@ use table_rows::{Bound, Tables};
 
 /// The number of the table with these names.
 pub fn table_of(tables: &[TableDef], db: &[u8], name: &[u8]) -> Option<u32>
+    requires { length tables.now ≤ 64 }
     ensures { result ≡ table_named 0 tables.now db.now name.now }
 {
     for (number, table) in tables.iter().enumerate() {
@@ -38,13 +39,25 @@ pub fn show_rows(tables: &Tables, table: u32, text: &mut Vec<u8>) -> Result<(), 
 }
 
 /// The number of the primary index.
-fn primary_index(indexes: &[IndexDef]) -> u32 {
+fn primary_index(indexes: &[IndexDef]) -> u32
+    requires { length indexes.now ≤ 16 }
+    ensures { result ≡ primary_place 0 indexes.now }
+{
     for (number, index) in indexes.iter().enumerate() {
-        if index.kind == IndexKind::Primary {
+        if is_primary(index.kind) {
             return number as u32;
         }
     }
     0
+}
+
+fn is_primary(kind: IndexKind) -> bool
+    ensures { result ≡ is_primary kind }
+{
+    match kind {
+        IndexKind::Primary => true,
+        IndexKind::Unique | IndexKind::Plain => false,
+    }
 }
 
 /// Appends the line of a row.

@@ -158,7 +158,7 @@ impl Session {
     pub fn table_of(&self, db: &[u8], name: &[u8]) -> Option<u32>
         ensures { result ≡ table_named 0 self.now.schema.tables db.now name.now }
     {
-        table_of(self.schema.tables.as_slice(), db, name)
+        table_of(self.tables.schema().tables.as_slice(), db, name)
     }
 
     /// Appends a line of each row of a table, in the order of the primary key.

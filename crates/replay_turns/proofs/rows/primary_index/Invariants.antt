@@ -1,9 +1,6 @@
-use Rattle.std.proofs.Common.{◌≡◌, ◌<◌, ◌++◌, ◌∷◌, true, length, get_or, map, OnOk, ℕ, ◌+◌, ◌-◌, ◌*◌, ◌≤◌}
-use Rattle.hs_token.specs.Spelling.{token_spelled, behind_tabs}
-use Rattle.row_types.specs.Valid.{is_primary}
-use Rattle.batch_answers.specs.Database.{database_of}
-use Rattle.replay_turns.specs.Shown.{table_named, value_token, row_shown, all_shown}
+use Rattle.std.proofs.Common.{◌≡◌, drop}
+use Rattle.replay_turns.specs.Shown.{primary_place}
 use Rattle.replay_turns.proofs.rows.primary_index.Given as goal
 
 abbrev pub invariant-loop-number : goal.invariant-loop-number
-invariant-loop-number l = ?
+invariant-loop-number l = primary_place l.number (drop l.number l.indexes) ≡ primary_place 0 l.indexes
