@@ -12,3 +12,4 @@ mod Plays
 pub mod ToldLines
 pub mod Turns
 pub mod Answering
+pub mod Joined

@@ -17,7 +17,7 @@ use Rattle.line_pipeline.specs.Conn.{state_of}
 use Rattle.line_pipeline.specs.Table.{Table, same_id, is_listed, are_once, conn_at, is_held, without}
 use Rattle.line_pipeline.proofs.Ids.{same_id-refl, same_id-is, same_id-other, once-head, once-tail}
 use Rattle.replay_turns.specs.declared.entries.Entry.{Entry}
-use Rattle.replay_turns.specs.Linked.{Linked, linked_at, on}
+use Rattle.replay_turns.specs.Linked.{Linked, linked_at, has_ended, on}
 use Rattle.replay_turns.specs.Sending.{passed, on_sending}
 use Rattle.replay_turns.specs.Connected.{Connected}
 use Rattle.replay_turns.proofs.Lookups.{keeps-none}
@@ -349,3 +349,19 @@ entries_same t e f number es at is read id ended are =
 
 pub on_same : (t : Table) (e f : Entry) (number : ℕ) (g : Linked → Linked) (es : List Entry) (at : ℕ) → Found number es at → e ≡ get_or es at e → AreEntries t es → linked t.conns f ≡ g (linked t.conns e) → all_linked t.conns (set es at f) ≡ on number g (all_linked t.conns es)
 on_same t e f number g es at is read are same = on_at t t e f number g es at is read are (keeps-none e.id t) same
+
+-- ---- what is asked of it
+
+pub has_ended-found : (number : ℕ) (cs : List (ConnId × Conn)) (es : List Entry) (at : ℕ) (d : Entry) → Found number es at → has_ended number (all_linked cs es) ≡ (get_or es at d).link.peer_ended
+has_ended-found number cs [] at d is = absurd is
+has_ended-found number cs (e ∷ es) zero d is = rw is refl
+has_ended-found number cs (e ∷ es) (suc at) d is = rw is.0 (has_ended-found number cs es at d is.1)
+
+pub has_ended-missing : (number : ℕ) (cs : List (ConnId × Conn)) (es : List Entry) → Missing number es → has_ended number (all_linked cs es) ≡ false
+has_ended-missing number cs [] none = refl
+has_ended-missing number cs (e ∷ es) none = rw none.0 (has_ended-missing number cs es none.1)
+
+pub ended-in : (table : Table) (e : Entry) (number : ℕ) (es : List Entry) (at : ℕ) → Found number es at → e ≡ get_or es at e → AreEntries table es → e.has_ended ≡ has_ended number (all_linked table.conns es)
+ended-in table e number es at is read are =
+    let entry : IsEntry table (get_or es at e) = each-at (IsEntry table) es at e (below number es at is) are.each in
+    ap (λ (x : Entry). x.has_ended) read ∙ entry.ended ∙ sym (has_ended-found number table.conns es at e is)
