@@ -1,5 +1,5 @@
 -- The table of the tests.
-use Rattle.std.proofs.Common.{◌≡◌, refl, arith}
+use Rattle.std.proofs.Common.{refl, arith}
 use Rattle.row_types.specs.Valid.{IsValid}
 use Rattle.replay_turns.specs.Examples.{some_schema}
 

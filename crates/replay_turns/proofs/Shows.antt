@@ -3,9 +3,8 @@
 --     rows_there      a table's rows, seen without their slots
 --     walk_shown      the walk of the primary index is what is to be shown
 --     indexes_there      the indexes of the table that is read at its number
-use Rattle.std.proofs.Common.{◌≡◌, ℕ, ◌<◌, List, [], ◌∷◌, ◌++◌, length, map, get_or, Some, refl, sym, ap, ◌∙◌}
+use Rattle.std.proofs.Common.{◌≡◌, ℕ, ◌<◌, List, [], ◌∷◌, length, map, get_or, Some, refl, sym, ap, ◌∙◌}
 use Rattle.std.proofs.lemmas.List.{get_or-map, get_or_default}
-use Rattle.row_types.specs.declared.values.Value.{Value}
 use Rattle.row_store.specs.Entries.{Entry}
 use Rattle.table_rows.specs.declared.bound.Bound.TheVariants.{From}
 use Rattle.row_types.specs.declared.tables.TableDef.{TableDef}

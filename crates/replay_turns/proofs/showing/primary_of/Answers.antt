@@ -1,10 +1,8 @@
-use Rattle.std.proofs.Common.{◌≡◌, ◌<◌, ◌≤◌, true, List, length, sym, ap, subst, ◌∙◌, arith}
+use Rattle.std.proofs.Common.{◌≡◌, true, List, length, sym, ap, subst, ◌∙◌, arith}
 use Rattle.std.specs.List.{list_any}
 use Rattle.row_types.specs.declared.indexes.IndexDef.{IndexDef}
 use Rattle.row_types.specs.declared.tables.Schema.{Schema}
 use Rattle.row_types.specs.Valid.{is_primary}
-use Rattle.table_rows.specs.Rows.{indexes_of}
-use Rattle.table_rows.specs.Indexes.{primary_of, parts_at}
 use Rattle.table_rows.proofs.States.{table_in_schema, def_valid}
 use Rattle.replay_turns.proofs.Shows.{indexes_there}
 use Rattle.replay_turns.proofs.showing.primary_of.Goals as goal

@@ -1,4 +1,4 @@
-use Rattle.std.proofs.Common.{◌≡◌, ◌++◌, List, map, ℕ, ap, ◌∙◌}
+use Rattle.std.proofs.Common.{◌++◌, List, map, ℕ, ap, ◌∙◌}
 use Rattle.std.proofs.lemmas.Result.{on_ok_weaker}
 use Rattle.row_store.specs.Entries.{Entry}
 use Rattle.replay_turns.specs.Shown.{rows_lines}

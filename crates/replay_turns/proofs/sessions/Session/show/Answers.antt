@@ -1,4 +1,4 @@
-use Rattle.std.proofs.Common.{◌<◌, length, ap, arith}
+use Rattle.std.proofs.Common.{length, ap, arith}
 use Rattle.row_types.specs.declared.tables.Schema.{Schema}
 use Rattle.table_rows.specs.Valid.{AreValidRows}
 use Rattle.table_rows.proofs.States.{zip_long}
