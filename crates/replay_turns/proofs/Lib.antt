@@ -11,3 +11,4 @@ pub mod ToldLines
 pub mod Turns
 pub mod Answering
 pub mod Joined
+pub mod Showing
