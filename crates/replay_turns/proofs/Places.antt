@@ -59,8 +59,8 @@ missing-from number start (e ∷ es) is =
     (λ other. (other, missing-from number (start + 1) es (rw other refl ∙ is)))
     (cases_Bool (eqb e.number number))
   where
-  none_some : (n : ℕ) → ◌≡◌ {A = Option ℕ} None (Some n) → ⊥
-  none_some n is = cc
+    none_some : (n : ℕ) → ◌≡◌ {A = Option ℕ} None (Some n) → ⊥
+    none_some n is = cc
 
 pub missing : (number : ℕ) (es : List Entry) → place_from 0 number es ≡ None → Missing number es
 missing number es is = missing-from number 0 es is

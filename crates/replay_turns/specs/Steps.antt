@@ -11,9 +11,9 @@ pulled l =
     if room_of l.conn == 0 then l
     else if l.fails_next then broken l
     else by l.left where
-  by : List ℕ → Linked
-  by [] = if l.peer_ended then record l { conn = ended l.conn } else l
-  by (b ∷ bs) = record l { conn = heard l; left = drop (room_of l.conn) l.left }
+      by : List ℕ → Linked
+      by [] = if l.peer_ended then record l { conn = ended l.conn } else l
+      by (b ∷ bs) = record l { conn = heard l; left = drop (room_of l.conn) l.left }
 
 -- After one call to send, more may be sent, and together with that it is what was to be sent; or all of it was sent.
 abbrev pub SendStep : Bool → Linked → Linked → List ℕ → List ℕ → Type 0

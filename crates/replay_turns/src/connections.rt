@@ -63,9 +63,10 @@ impl Connections {
 
     /// One more connection, behind the others.
     pub fn open(&mut self, alloc: Global, number: u32, port: Port) -> Result<(), AllocError>
-        ensures { OnOk result (self.new ≡ record self.old {
+        ensures opened { OnOk result (self.new ≡ record self.old {
           conns = self.old.conns ++ opened self.old.secrets number port ∷ [];
         }) }
+        ensures schema { self.new.schema ≡ self.old.schema }
     {
         self.entries.reserve(1)?;
         let Ok(id) = self.table.add(alloc, port) else {

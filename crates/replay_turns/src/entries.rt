@@ -29,11 +29,7 @@ pub fn place_of(entries: &[Entry], number: u32) -> Option<usize>
 }
 
 /// The ids of the entries with these numbers. A number that none has is passed over.
-pub fn ids_at(
-    alloc: Global,
-    entries: &[Entry],
-    numbers: &[u32],
-) -> Result<Vec<ConnId>, AllocError>
+pub fn ids_at(alloc: Global, entries: &[Entry], numbers: &[u32]) -> Result<Vec<ConnId>, AllocError>
     ensures { IfOk result (λ ids. ids.items ≡ ids_at entries.now numbers.now) }
 {
     let mut ids = Vec::with_capacity(alloc, numbers.len())?;

@@ -31,11 +31,7 @@ pub fn receive(
 }
 
 /// Asks the link once for as many bytes as the connection has room for.
-fn pull(
-    table: &mut ConnTable,
-    entry: &mut Entry,
-    buffer: &mut [u8],
-) -> Result<(), AllocError>
+fn pull(table: &mut ConnTable, entry: &mut Entry, buffer: &mut [u8]) -> Result<(), AllocError>
     requires held { is_held table.old.conns entry.old.id ≡ true }
     requires buffer { length buffer.old ≡ BUFFER_SIZE }
     ensures entry { KeepsLink entry.old entry.new }

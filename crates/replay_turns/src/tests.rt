@@ -176,11 +176,125 @@ fn numbers_are_free_again_after_a_closing(rt: HostRuntime) -> Result<(), Fail> {
         session.open(alloc, 7, Port::Writing)?;
         session.peer_end(7);
         assert!(rt; session.has_ended(7));
-        turn(&rt, alloc, &mut session, &[7], b"sent\t7\t\nclosed\t7\tended\n")?;
+        turn(
+            &rt,
+            alloc,
+            &mut session,
+            &[7],
+            b"sent\t7\t\nclosed\t7\tended\n",
+        )?;
     }
     for number in 0..256 {
         session.open(alloc, number, Port::Writing)?;
     }
     assert_eq!(rt; session.count(), 256);
+    Ok(())
+}
+
+#[test]
+fn a_turn_answers_256_lines_and_the_next_the_others(rt: HostRuntime) -> Result<(), Fail> {
+    play(
+        &rt,
+        rt.alloc(),
+        &[
+            Step::Open(1, Port::Writing),
+            Step::Lines(1, 257),
+            Step::Replies(1, 256, b""),
+            Step::Replies(1, 1, b""),
+            Step::Replies(1, 0, b""),
+        ],
+    )?;
+    Ok(())
+}
+
+#[test]
+fn a_peer_that_ends_is_answered_first(rt: HostRuntime) -> Result<(), Fail> {
+    play(
+        &rt,
+        rt.alloc(),
+        &[
+            Step::Open(1, Port::Writing),
+            Step::Lines(1, 300),
+            Step::End(1),
+            Step::Replies(1, 256, b""),
+            Step::Replies(1, 44, b"closed\t1\tended\n"),
+        ],
+    )?;
+    Ok(())
+}
+
+#[test]
+fn the_lines_before_one_that_is_too_long_are_answered(rt: HostRuntime) -> Result<(), Fail> {
+    play(
+        &rt,
+        rt.alloc(),
+        &[
+            Step::Open(1, Port::Writing),
+            Step::Long(1, 65_536),
+            Step::Bytes(1, b"\n"),
+            Step::Replies(1, 1, b""),
+            Step::Bytes(1, b"x\n"),
+            Step::Long(1, 65_537),
+            Step::Replies(1, 1, b"closed\t1\tlong\n"),
+        ],
+    )?;
+    Ok(())
+}
+
+#[test]
+fn what_a_link_has_no_room_for_waits(rt: HostRuntime) -> Result<(), Fail> {
+    play(
+        &rt,
+        rt.alloc(),
+        &[
+            Step::Open(1, Port::Writing),
+            Step::Room(1, 3),
+            Step::Bytes(1, b"x\n"),
+            Step::Turn(&[1], b"sent\t1\t1\x01\x491\n"),
+            Step::Turn(&[1], b"sent\t1\t\n"),
+            Step::End(1),
+            Step::Room(1, 100),
+            Step::Turn(&[1], b"sent\t1\t\x01\x49cmd\x01\x4a\nclosed\t1\tended\n"),
+        ],
+    )?;
+    Ok(())
+}
+
+#[test]
+fn a_line_is_answered_once_its_end_has_come(rt: HostRuntime) -> Result<(), Fail> {
+    let alloc = rt.alloc();
+    let lines = b"x\nx\nx\n";
+    for cut in 0..lines.len() {
+        let (first, second) = lines.split_at(cut);
+        play(
+            &rt,
+            alloc,
+            &[
+                Step::Open(1, Port::Writing),
+                Step::Bytes(1, first),
+                Step::Replies(1, cut / 2, b""),
+                Step::Bytes(1, second),
+                Step::Replies(1, 3 - cut / 2, b""),
+            ],
+        )?;
+    }
+    Ok(())
+}
+
+#[test]
+fn connections_are_told_of_in_the_order_of_the_list(rt: HostRuntime) -> Result<(), Fail> {
+    play(
+        &rt,
+        rt.alloc(),
+        &[
+            Step::Open(1, Port::Writing),
+            Step::Open(2, Port::Writing),
+            Step::Bytes(1, b"x\n"),
+            Step::Turn(
+                &[2, 1],
+                b"sent\t2\t\nsent\t1\t1\x01\x491\x01\x49cmd\x01\x4a\n",
+            ),
+        ],
+    )?;
     Ok(())
 }

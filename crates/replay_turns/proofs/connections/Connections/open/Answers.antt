@@ -28,8 +28,8 @@ invariant_of-self-2 c =
     let ended = sym (ap (λ (l : LinkInMemory). l.peer_ended) c.new-link.ensures) in
     (subst (λ (xs : List Entry). AreEntries new xs) (sym items) (entries_joined t new schema f _ c.in-Ok.ensures.joins c.in-Ok.ensures.unheld es c.self.invariant.0 (fresh_fits (secret_of t.secrets c.args.port) c.args.port) ended), c.self.invariant.1)
 
-pub returns : goal.returns
-returns c =
+pub returns-clause-opened : goal.returns-clause-opened
+returns-clause-opened c =
     let t = c.self.inside.table in
     let new = c.add.new.self in
     let es = c.self.inside.entries.items in
@@ -42,3 +42,6 @@ returns c =
     subst (λ (v : Connected). record { schema = new.schema; secrets = new.secrets; conns = all_linked new.conns c.push_reserved.new.self.items } ≡ record v { conns = v.conns ++ opened v.secrets c.args.number c.args.port ∷ [] }) c.self.view_is
     (ap (λ (x : Table). record { schema = x.schema; secrets = x.secrets; conns = all_linked new.conns c.push_reserved.new.self.items }) c.in-Ok.ensures.rest
     ∙ ap (λ (ls : List Linked). record { schema = t.schema; secrets = t.secrets; conns = ls }) conns_are)
+
+pub returns-clause-schema : goal.returns-clause-schema
+returns-clause-schema c = ap (λ (x : Table). x.schema) c.in-Ok.ensures.rest ∙ ap (λ (v : Connected). v.schema) c.self.view_is
