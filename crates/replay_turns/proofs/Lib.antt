@@ -13,4 +13,4 @@ pub mod ToldLines
 pub mod Turns
 pub mod Answering
 pub mod Joined
-pub mod Showing
+mod Empty

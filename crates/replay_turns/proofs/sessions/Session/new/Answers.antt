@@ -3,7 +3,7 @@ use Rattle.row_types.specs.declared.tables.Schema.{Schema}
 use Rattle.batch_answers.specs.Database.{Database, database_of}
 use Rattle.replay_turns.specs.Connected.{Connected}
 use Rattle.replay_turns.specs.Session.{Session}
-use Rattle.replay_turns.proofs.Showing.{empty_is}
+use Rattle.replay_turns.proofs.Empty.{empty_is}
 use Rattle.replay_turns.proofs.sessions.Session.new.Goals as goal
 
 abbrev of_parts : Connected → Database → Session
