@@ -29,5 +29,6 @@ pub fn run_batch(
     ensures err { OnErr result (database_of tables.new ≡ database_of tables.old) }
     ensures unnoted { OnErr result (undo.new.entries ≡ undo.old.entries) }
 {
+    let _ = (alloc, tables, schema, batch, undo);
     Err(AllocError)
 }
