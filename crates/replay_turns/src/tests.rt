@@ -8,6 +8,7 @@ use std::process::Abort;
 use std::test::Fail;
 
 /// What is done in a test, one after another.
+#[derive(Drop)]
 enum Step<'a> {
     Open(u32, Port),
     Bytes(u32, &'a [u8]),
