@@ -1,7 +1,6 @@
 -- What holds of all rows of a table holds of those that a find selects.
-use Rattle.std.proofs.Common.{◌≡◌, ℕ, Bool, true, List, [], ◌∷◌, ◌++◌, take, drop, Contains, refl, sym, subst}
+use Rattle.std.proofs.Common.{◌≡◌, ℕ, true, List, [], ◌∷◌, take, drop, sym, subst}
 use Rattle.std.specs.List.{All, AllByRecursion}
-use Rattle.std.proofs.lemmas.Bool.{eq-eqb}
 use Rattle.std.proofs.lemmas.List.{take-append-drop}
 use Rattle.std.proofs.lemmas.List.Elements.{All-from_recursion}
 use Rattle.row_types.specs.declared.values.Value.{Value}
@@ -18,7 +17,7 @@ use Rattle.find_filter.specs.declared.finds.FindOp.TheVariants.{Equal, Greater, 
 use Rattle.find_filter.specs.declared.finds.FindSpec.{FindSpec}
 use Rattle.table_rows.specs.declared.slot_ref.SlotRef.{SlotRef}
 use Rattle.table_rows.specs.Rows.{State, entries_of}
-use Rattle.table_rows.specs.Slots.{is_in, is_live_in}
+use Rattle.table_rows.specs.Slots.{is_live_in}
 use Rattle.table_rows.specs.Walks.{walk_of}
 use Rattle.table_rows.proofs.BySlot.{live_member}
 use Rattle.find_scan.specs.Select.{directed, columns_for, matching, found, keys_of, by_step, kept, selected, slots_of}

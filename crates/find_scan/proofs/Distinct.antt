@@ -2,11 +2,11 @@
 --     own_in_order, own_reversed, own_append, own_front, own_back      lists in which each row has a slot of its own
 --     once_apart      values, each once
 --     distinct_selected      the rows of a find
-use Rattle.std.proofs.Common.{◌≡◌, ℕ, ◌<◌, ◌≤◌, Bool, true, false, not, List, [], ◌∷◌, ◌++◌, length, length-set, map, set, get_or, filter, reverse, take, drop, Option, Some, None, Contains, refl, sym, ap, subst, ◌∙◌, append-nil}
+use Rattle.std.proofs.Common.{◌≡◌, ℕ, ◌<◌, Bool, true, false, not, List, [], ◌∷◌, ◌++◌, length, length-set, map, set, get_or, filter, reverse, take, drop, Option, Some, None, Contains, sym, ap, subst, ◌∙◌, append-nil}
 use Rattle.std.specs.List.{AllByRecursion}
 use Rattle.std.specs.Ordering.{is_eq}
 use Rattle.std.specs.Prelude.{IfSome, ◌==◌}
-use Rattle.std.proofs.lemmas.Bool.{true≢false, not-true, eqb-true, ne_eqb}
+use Rattle.std.proofs.lemmas.Bool.{true≢false, not-true, ne_eqb}
 use Rattle.std.proofs.lemmas.Cmp.{tied_itself}
 use Rattle.std.proofs.lemmas.List.{take-append-drop, reverse-append, get_or-set_same}
 use Rattle.row_types.specs.declared.values.Value.{Value}
@@ -15,7 +15,7 @@ use Rattle.row_types.specs.Order.{value_cmp}
 use Rattle.row_types.proofs.Orders.{value_cmp_total}
 use Rattle.index_tree.specs.Ordered.{AreApart, is_below, in_order}
 use Rattle.index_tree.proofs.Ascending.{equal_is, parted_below}
-use Rattle.index_tree.proofs.Elements.{all_pass, all_kept, all_weaker, all_append, all_front, all_back, all_mapped, each_member, member_of_kept, kept_passes}
+use Rattle.index_tree.proofs.Elements.{all_pass, all_weaker, all_append, all_front, all_mapped, each_member, member_of_kept, kept_passes}
 use Rattle.index_tree.proofs.InOrder.{all_in_order, in_order_members, ascending_in_order}
 use Rattle.row_store.specs.Entries.{Entry, cells, entry_cmp}
 use Rattle.row_store.proofs.CellOrder.{entry_cmp_total}

@@ -1,16 +1,13 @@
 -- What follows from a find that fits valid tables.
-use Rattle.std.proofs.Common.{◌≡◌, ℕ, zero, suc, ◌≤◌, ◌<◌, arith, List, [], ◌∷◌, ◌++◌, length, map, get_or, filter, Option, Some, None, refl, sym, ap, subst, ◌∙◌}
-use Rattle.std.specs.List.{All, AllByRecursion}
+use Rattle.std.proofs.Common.{◌≡◌, ℕ, zero, suc, ◌≤◌, ◌<◌, arith, List, [], ◌∷◌, length, get_or, Option, Some, None, refl, sym, ap, subst, ◌∙◌}
+use Rattle.std.specs.List.{All}
 use Rattle.std.proofs.lemmas.List.{get_or-map}
-use Rattle.std.proofs.lemmas.List.Elements.{All-weaker}
 use Rattle.std.specs.Prelude.{IfSome}
-use Rattle.std.specs.declared.cmp.Ordering.{Ordering}
 use Rattle.row_types.specs.declared.values.Value.{Value}
 use Rattle.row_types.specs.declared.columns.Column.{Column}
 use Rattle.row_types.specs.declared.indexes.IndexDef.{IndexDef}
 use Rattle.row_types.specs.declared.indexes.IndexKind.TheVariants.{Primary}
 use Rattle.row_types.specs.declared.tables.TableDef.{TableDef}
-use Rattle.row_types.specs.declared.tables.Schema.{Schema}
 use Rattle.index_tree.specs.Ordered.{IsAscending, AreApart}
 use Rattle.index_tree.proofs.Apart.{apart_from_ascending}
 use Rattle.index_tree.proofs.Elements.{all_kept, all_weaker}
@@ -26,7 +23,6 @@ use Rattle.find_filter.specs.Fits.{KeyFits, ListFits, FindFitsTable, FindFits}
 use Rattle.find_filter.proofs.FitFacts.{is_within, holds_there, filters_within}
 use Rattle.table_rows.specs.declared.bound.Bound.{Bound}
 use Rattle.table_rows.specs.declared.bound.Bound.TheVariants.{From, Behind, To, Before}
-use Rattle.table_rows.specs.Checks.{IsRow}
 use Rattle.table_rows.specs.Rows.{State, no_table, def_of, columns_of, indexes_of, rows_of, entries_of}
 use Rattle.table_rows.specs.Indexes.{parts_at, primary_of}
 use Rattle.table_rows.specs.Valid.{IsWhole, AreValidRows, IsValidState}

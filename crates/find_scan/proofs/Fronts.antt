@@ -1,5 +1,5 @@
 -- Of a walk from a key on, the rows with the key are the front.
-use Rattle.std.proofs.Common.{◌≡◌, ℕ, zero, suc, ◌≤◌, Bool, true, false, not, cond, List, [], ◌∷◌, ◌++◌, length, filter, reverse, take, refl, sym, ap, subst, ◌∙◌, arith}
+use Rattle.std.proofs.Common.{◌≡◌, ℕ, ◌≤◌, Bool, true, false, not, List, [], ◌∷◌, ◌++◌, length, filter, refl, sym, ap, ◌∙◌, arith}
 use Rattle.std.specs.declared.cmp.Ordering.{Ordering}
 use Rattle.std.specs.declared.cmp.Ordering.TheVariants.{Less, Equal, Greater}
 use Rattle.std.specs.Ordering.{ordering_then, is_lt, is_eq, is_gt}
@@ -7,7 +7,7 @@ use Rattle.std.specs.List.{AllByRecursion, take_while}
 use Rattle.std.proofs.lemmas.Bool.{true≢false}
 use Rattle.std.proofs.lemmas.List.Sums.{take_while-cons}
 use Rattle.row_types.specs.declared.values.Value.{Value}
-use Rattle.row_types.specs.Order.{value_cmp, key_cmp, prefix_cmp}
+use Rattle.row_types.specs.Order.{value_cmp, prefix_cmp}
 use Rattle.index_tree.specs.Ordered.{IsAscending}
 use Rattle.index_tree.proofs.Cuts.{filter_none}
 use Rattle.row_store.specs.Entries.{Entry, cell_at, cells, entry_cmp}
@@ -16,7 +16,7 @@ use Rattle.find_filter.specs.declared.finds.FindOp.{FindOp}
 use Rattle.find_filter.specs.declared.finds.FindOp.TheVariants as ops
 use Rattle.table_rows.specs.Walks.{walked}
 use Rattle.find_scan.specs.Select.{is_asked, directed, stands_to}
-use Rattle.find_scan.specs.Gathering.{has_key, front_of, is_equal, bound_of}
+use Rattle.find_scan.specs.Gathering.{front_of, is_equal, bound_of}
 
 -- a key of no more values than columns compares with the cells at these alone
 pub first_cells : (columns more : List ℕ) (key row : List Value) → length key ≤ length columns → prefix_cmp (cells (columns ++ more) row) key ≡ prefix_cmp (cells columns row) key

@@ -1,5 +1,5 @@
 -- One value of a list after another.
-use Rattle.std.proofs.Common.{◌≡◌, ℕ, Bool, true, false, cond, List, [], ◌∷◌, ◌++◌, map, set, refl, sym, ap, ◌∙◌}
+use Rattle.std.proofs.Common.{◌≡◌, ℕ, Bool, true, false, cond, List, ◌∷◌, ◌++◌, map, set, sym, ap, ◌∙◌}
 use Rattle.row_types.specs.declared.values.Value.{Value}
 use Rattle.row_store.specs.Entries.{Entry}
 use Rattle.find_filter.specs.declared.finds.FindSpec.{FindSpec}

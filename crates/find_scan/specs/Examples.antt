@@ -7,7 +7,7 @@ use Rattle.row_types.specs.declared.columns.Column.{Column}
 use Rattle.row_types.specs.declared.columns.Kind.TheVariants as kinds
 use Rattle.row_types.specs.declared.tables.Schema.{Schema}
 use Rattle.row_types.specs.declared.indexes.IndexDef.{IndexDef}
-use Rattle.row_types.specs.declared.indexes.IndexKind.TheVariants.{Primary, Unique, Plain}
+use Rattle.row_types.specs.declared.indexes.IndexKind.TheVariants.{Primary, Plain}
 use Rattle.std.specs.List.{AllByRecursion}
 use Rattle.find_filter.specs.declared.finds.FindOp.{FindOp}
 use Rattle.find_filter.specs.declared.finds.FindOp.TheVariants.{Equal}

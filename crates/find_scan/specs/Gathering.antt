@@ -1,5 +1,5 @@
 -- What the steps of a find say of rows. No public clause cites these.
-use Rattle.std.specs.Prelude.{◌≡◌, ℕ, ◌<◌, Bool, true, false, not, List, [], ◌∷◌, ◌++◌, length, filter, map, take, drop}
+use Rattle.std.specs.Prelude.{ℕ, ◌<◌, Bool, true, false, not, List, ◌++◌, length, filter, take, drop}
 use Rattle.std.specs.List.{All, AllByRecursion, list_any, take_while}
 use Rattle.std.specs.Ordering.{is_eq}
 use Rattle.row_types.specs.declared.values.Value.{Value}

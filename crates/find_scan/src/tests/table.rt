@@ -20,7 +20,7 @@ use row_types::{
 use std::alloc::{AllocError, Global};
 use table_rows::{Tables, UndoList, Verdict};
 
-pub(super) fn text(alloc: Global, bytes: &[u8]) -> Result<Value, AllocError>
+fn text(alloc: Global, bytes: &[u8]) -> Result<Value, AllocError>
     ensures { IfOk result (λ value. value ≡ values.Text bytes.now) }
 {
     Ok(Value::Text(ByteText::of(alloc, bytes)?))
@@ -83,7 +83,7 @@ fn schema(alloc: Global) -> Result<Schema, AllocError>
 }
 
 /// The table without a row.
-pub(super) fn new_tables(alloc: Global) -> Result<Tables, AllocError>
+fn new_tables(alloc: Global) -> Result<Tables, AllocError>
     ensures { IfOk result (λ tables. IsPlay tables) }
 {
     let schema = schema(alloc)?;
@@ -91,7 +91,7 @@ pub(super) fn new_tables(alloc: Global) -> Result<Tables, AllocError>
 }
 
 /// A row of the table.
-pub(super) fn row(alloc: Global, id: i64, v: Value, n: i64) -> Result<Row, AllocError>
+fn row(alloc: Global, id: i64, v: Value, n: i64) -> Result<Row, AllocError>
     requires { kind_fit (Bytes 8000) v ≡ fits_as.Fine }
     ensures { IfOk result (λ row. IsRow some_columns row) }
 {
@@ -103,7 +103,7 @@ pub(super) fn row(alloc: Global, id: i64, v: Value, n: i64) -> Result<Row, Alloc
 }
 
 /// Puts a row, and says whether that could be done.
-pub(super) fn put(alloc: Global, tables: &mut Tables, row: Row) -> Result<bool, AllocError>
+fn put(alloc: Global, tables: &mut Tables, row: Row) -> Result<bool, AllocError>
     requires play { IsPlay tables.old }
     requires row { IsRow some_columns row }
     ensures { IfOk result (λ put. IsPlay tables.new) }
@@ -161,8 +161,22 @@ pub(super) fn four_rows(alloc: Global) -> Result<Tables, AllocError>
     Ok(tables)
 }
 
+/// The rows 2 to 4: of a text whose bytes are escaped but for the last, of no text, and of an empty one.
+pub(super) fn text_rows(alloc: Global) -> Result<Tables, AllocError>
+    ensures { IfOk result (λ tables. IsPlay tables) }
+{
+    let mut tables = new_tables(alloc)?;
+    let new = row(alloc, 2, text(alloc, b"\x00\x09\x0A\x0FA")?, 7)?;
+    put(alloc, &mut tables, new)?;
+    let new = row(alloc, 3, Value::Null, 8)?;
+    put(alloc, &mut tables, new)?;
+    let new = row(alloc, 4, text(alloc, b"")?, 9)?;
+    put(alloc, &mut tables, new)?;
+    Ok(tables)
+}
+
 /// Numbers as values.
-pub(super) fn numbers(alloc: Global, numbers: &[i64]) -> Result<List<Value>, AllocError>
+fn numbers(alloc: Global, numbers: &[i64]) -> Result<List<Value>, AllocError>
     ensures values { IfOk result (λ values. AllByRecursion IsNumber values) }
     ensures length { IfOk result (λ values. length values ≡ length numbers.now) }
 {

@@ -1,8 +1,7 @@
-use Rattle.std.proofs.Common.{◌≡◌, ℕ, ◌+◌, get_or, Bool, true, false, cond, List, [], ◌∷◌, ◌++◌, length, length-set, map, set, drop, ◌<◌, ◌≤◌, sym, ap, subst, ◌∙◌}
+use Rattle.std.proofs.Common.{◌≡◌, ◌+◌, get_or, Bool, cond, List, [], ◌∷◌, length, length-set, set, drop, ◌<◌, ◌≤◌, sym, ap, subst, ◌∙◌}
 use Rattle.std.proofs.lemmas.Bool.{eqb-true}
 use Rattle.std.proofs.lemmas.List.{at_drop_more, at_drop_all, set-set}
 use Rattle.row_types.specs.declared.values.Value.{Value}
-use Rattle.find_scan.specs.Select.{found, once}
 use Rattle.find_scan.specs.Gathering.{Gathered, gives, fresh}
 use Rattle.find_scan.proofs.Gathered.{full_gives}
 use Rattle.find_scan.proofs.Fresh.{fresh_first}

@@ -1,4 +1,4 @@
-use Rattle.std.proofs.Common.{◌≡◌, ℕ, List, [], length, map, drop, set}
+use Rattle.std.proofs.Common.{◌≡◌, length, map, drop, set}
 use Rattle.row_types.specs.declared.values.Value.{Value}
 use Rattle.find_scan.specs.Select.{found, once}
 use Rattle.find_scan.specs.Gathering.{gives, fresh}

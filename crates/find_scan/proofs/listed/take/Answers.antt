@@ -1,4 +1,4 @@
-use Rattle.std.proofs.Common.{◌≡◌, Bool, not, cond, List, ◌∷◌, ◌∙◌, refl, sym, ap}
+use Rattle.std.proofs.Common.{◌≡◌, Bool, not, cond, ◌∷◌, ◌∙◌, refl, sym, ap}
 use Rattle.std.specs.BTreeSet.{insert_key}
 use Rattle.row_types.specs.declared.values.Value.{Value}
 use Rattle.row_types.specs.declared.values.Value.TheVariants.{Null, Int, Text}

@@ -1,4 +1,4 @@
-use Rattle.std.proofs.Common.{◌≡◌, ◌++◌, ◌+◌, ◌∷◌, [], ℕ, List, length, ap, ◌∙◌, arith}
+use Rattle.std.proofs.Common.{◌++◌, ◌∷◌, [], ℕ, List, ap, ◌∙◌, arith}
 use Rattle.find_scan.specs.Rendering.{rows_at}
 use Rattle.find_scan.proofs.Shown.{reply_behind, reply_size}
 use Rattle.find_scan.proofs.replies.append_reply.Goals as goal

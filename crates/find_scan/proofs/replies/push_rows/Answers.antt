@@ -1,9 +1,9 @@
-use Rattle.std.proofs.Common.{◌≡◌, ◌++◌, ◌∙◌, List, sym, ap, arith}
+use Rattle.std.proofs.Common.{◌++◌, ◌∙◌, List, sym}
 use Rattle.std.proofs.lemmas.List.{at_drop_more}
 use Rattle.hs_token.specs.Spelling.{behind_tabs}
 use Rattle.hs_token.proofs.ReplyLemmas.{extends_more}
 use Rattle.table_rows.specs.declared.slot_ref.SlotRef.{SlotRef}
-use Rattle.find_scan.specs.Show.{row_tokens, rows_tokens}
+use Rattle.find_scan.specs.Show.{rows_tokens}
 use Rattle.find_scan.specs.Rendering.{rows_at}
 use Rattle.find_scan.proofs.Shown.{row_written}
 use Rattle.find_scan.proofs.replies.push_rows.Goals as goal

@@ -1,4 +1,4 @@
-use Rattle.std.proofs.Common.{◌<◌, length, arith}
+use Rattle.std.proofs.Common.{arith}
 use Rattle.table_rows.specs.Rows.{columns_of}
 use Rattle.table_rows.proofs.States.{def_valid}
 use Rattle.find_scan.proofs.Few.{few_numbers}

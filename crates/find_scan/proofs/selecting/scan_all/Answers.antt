@@ -1,4 +1,4 @@
-use Rattle.std.proofs.Common.{◌≡◌, ◌∙◌, [], ◌++◌, List, sym, ap, Option}
+use Rattle.std.proofs.Common.{◌∙◌, [], ◌++◌, List, sym, ap, Option}
 use Rattle.row_types.specs.declared.values.Value.{Value}
 use Rattle.find_filter.specs.declared.finds.InSpec.{InSpec}
 use Rattle.find_scan.specs.Select.{found, keys_of, matching}

@@ -1,10 +1,9 @@
-use Rattle.std.proofs.Common.{◌≡◌, ◌≤◌, List, ◌++◌, length, sym, ap, subst, ◌∙◌, arith}
-use Rattle.row_types.specs.declared.values.Value.{Value}
+use Rattle.std.proofs.Common.{◌≡◌, List, ◌++◌, length, sym, ap, subst, ◌∙◌, arith}
 use Rattle.row_store.specs.Entries.{Entry}
 use Rattle.find_filter.specs.declared.filters.FilterSpec.{FilterSpec}
 use Rattle.table_rows.specs.declared.bound.Bound.{Bound}
 use Rattle.table_rows.specs.Walks.{walk_of, walked}
-use Rattle.find_scan.specs.Select.{columns_for, matching}
+use Rattle.find_scan.specs.Select.{columns_for}
 use Rattle.find_scan.specs.Gathering.{AreWideFor, gives, front_of, bound_of}
 use Rattle.find_scan.proofs.Gathered.{on_ok}
 use Rattle.find_scan.proofs.Fitting.{table_there, index_there, key_fits, wide_walked, matching_is}

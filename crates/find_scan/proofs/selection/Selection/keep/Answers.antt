@@ -1,6 +1,4 @@
-use Rattle.std.proofs.Common.{◌≡◌, ◌<◌, ℕ, List, ◌∷◌, ◌∙◌, ap, sym, subst, arith}
-use Rattle.row_types.specs.declared.values.Value.{Value}
-use Rattle.row_store.specs.Entries.{Entry}
+use Rattle.std.proofs.Common.{◌<◌, ◌∷◌, ◌∙◌, ap, sym, subst, arith}
 use Rattle.find_scan.specs.Gathering.{Gathered, with_kept}
 use Rattle.find_scan.proofs.Gathered.{selected_is}
 use Rattle.find_scan.proofs.selection.Selection.keep.Goals as goal

@@ -1,4 +1,4 @@
-use Rattle.std.proofs.Common.{◌≡◌, ◌<◌, ◌∙◌, ℕ, List, length, sym, ap, subst, arith}
+use Rattle.std.proofs.Common.{sym, subst}
 use Rattle.row_types.specs.declared.tables.Schema.{Schema}
 use Rattle.find_filter.specs.Fits.{FindFits}
 use Rattle.find_scan.proofs.Plays.{find_fits}

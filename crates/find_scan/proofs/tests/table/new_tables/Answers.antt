@@ -1,4 +1,4 @@
-use Rattle.std.proofs.Common.{◌≡◌, sym, subst}
+use Rattle.std.proofs.Common.{sym, subst}
 use Rattle.row_types.specs.Valid.{IsValid}
 use Rattle.find_scan.proofs.Plays.{some_schema_valid}
 use Rattle.find_scan.proofs.tests.table.new_tables.Goals as goal
