@@ -17,11 +17,10 @@ use Rattle.open_index.specs.Code.{number}
 use Rattle.open_index.specs.declared.requests.InsertSpec.{InsertSpec}
 use Rattle.table_rows.specs.declared.slot_ref.SlotRef.{SlotRef}
 use Rattle.table_rows.specs.declared.undo.Undo.{Undo}
-use Rattle.table_rows.specs.Rows.{Rows, State, no_rows, columns_of, indexes_of, rows_of, entries_of, room_of}
+use Rattle.table_rows.specs.Rows.{State, no_rows, columns_of, indexes_of, entries_of}
 use Rattle.table_rows.specs.Indexes.{primary_of}
-use Rattle.table_rows.specs.Slots.{is_live, row_of, row_at, without, with_row, with_row_at}
+use Rattle.table_rows.specs.Slots.{is_live, row_at, with_row, with_row_at}
 use Rattle.table_rows.specs.Valid.{IsValidState}
-use Rattle.table_rows.specs.Widths.{IsWidened}
 use Rattle.table_rows.proofs.BySlot.{row_of_member, without_free}
 use Rattle.table_rows.proofs.States.{rows_valid}
 use Rattle.table_rows.proofs.Roomier.{widened_roomier}
@@ -46,9 +45,9 @@ use Rattle.batch_answers.specs.Replies.{code_reply, count_reply}
 use Rattle.batch_answers.specs.Answers.{chosen, rows_reply, changed, unless_big, unless_refused, row_cmp, with_new, unless_barred, insert_answered, change_answered}
 use Rattle.batch_answers.specs.Steps.{reply_of}
 use Rattle.batch_answers.proofs.Alone.{roomier_same}
-use Rattle.batch_answers.proofs.Moved.{moved, all_moved, alone_moved, put_alone}
+use Rattle.batch_answers.proofs.Moved.{all_moved, alone_moved, put_alone}
 use Rattle.batch_answers.proofs.Chosen.{selected_moved}
-use Rattle.batch_answers.proofs.Changed.{moved_slot, at, Same, none_same, all_same}
+use Rattle.batch_answers.proofs.Changed.{moved_slot, Same, none_same, all_same}
 use Rattle.batch_answers.proofs.Named.{naming, apart_naming, named_tables}
 
 slots_moved : (f : ℕ → ℕ) (entries : List Entry) → slots_of (all_moved f entries) ≡ map (moved_slot f) (slots_of entries)

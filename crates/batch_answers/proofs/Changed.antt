@@ -5,7 +5,6 @@ use Rattle.std.proofs.Common.{◌≡◌, ℕ, ◌+◌, ◌-◌, ◌<◌, Bool, t
 use Rattle.std.specs.Prelude.{◌==◌, sum_by}
 use Rattle.std.proofs.lemmas.List.{map-set, length-map}
 use Rattle.row_types.specs.declared.values.Value.{Value}
-use Rattle.row_types.specs.declared.indexes.IndexDef.{IndexDef}
 use Rattle.row_types.specs.declared.tables.TableDef.{TableDef}
 use Rattle.row_types.specs.declared.tables.Schema.{Schema}
 use Rattle.row_types.specs.Size.{row_size}
@@ -14,7 +13,7 @@ use Rattle.find_filter.specs.declared.mods.ModSpec.{ModSpec}
 use Rattle.open_index.specs.declared.codes.Code.{Code}
 use Rattle.open_index.specs.declared.codes.Code.TheVariants as refused
 use Rattle.table_rows.specs.declared.slot_ref.SlotRef.{SlotRef}
-use Rattle.table_rows.specs.Rows.{Rows, State, no_table, no_rows, def_of, entries_of, room_of}
+use Rattle.table_rows.specs.Rows.{Rows, State, no_table, no_rows}
 use Rattle.table_rows.specs.Slots.{row_of, row_at, without, with_row, with_row_at, without_at}
 use Rattle.table_rows.specs.Sizes.{total, is_full}
 use Rattle.table_rows.specs.Checks.{null_column, dup_index, first_found}
@@ -23,7 +22,7 @@ use Rattle.find_modify.specs.Cells.{◌>>=◌, changed_row}
 use Rattle.find_modify.specs.Change.{unless_refused, with_instead, deletes, changed_one, changed_all}
 use Rattle.batch_answers.specs.Database.{rows_alone, rows_in}
 use Rattle.batch_answers.proofs.Alone.{bytes_of, total_alone}
-use Rattle.batch_answers.proofs.Moved.{moved, all_moved, alone_moved, dup_moved, without_moved, row_moved, put_moved}
+use Rattle.batch_answers.proofs.Moved.{all_moved, alone_moved, dup_moved, without_moved, row_moved, put_moved}
 
 -- all tables have the same rows, those of this one in slots that stand for each other
 pub record AreMoved (f : ℕ → ℕ) (table : ℕ) (ts us : List Rows) : Type 0 where

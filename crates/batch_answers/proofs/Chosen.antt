@@ -1,6 +1,6 @@
 -- A find selects the same rows, in whatever slots they are.
 --     selected_moved
-use Rattle.std.proofs.Common.{◌≡◌, ℕ, Bool, List, [], ◌∷◌, ◌++◌, map, filter, reverse, take, drop, refl, ap, ap₂, sym, ◌∙◌}
+use Rattle.std.proofs.Common.{◌≡◌, ℕ, List, [], ◌∷◌, ◌++◌, filter, reverse, take, drop, refl, ap, ap₂, sym, ◌∙◌}
 use Rattle.std.proofs.lemmas.List.{map-append, reverse-append, take-map, drop-map}
 use Rattle.index_tree.specs.Ordered.{in_order}
 use Rattle.index_tree.proofs.InOrder.{in_order_mapped}

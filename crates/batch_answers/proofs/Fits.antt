@@ -2,10 +2,9 @@
 --     find_within, find_numbers      the table of a find, and its columns
 --     slots_are      the slots that it selects
 --     ends_last      the last of all items ends its run
-use Rattle.std.proofs.Common.{◌≡◌, ℕ, zero, suc, ◌+◌, ◌<◌, Bool, true, false, not, List, [], ◌∷◌, length, drop, refl, ap, sym, subst, ◌∙◌, arith, ◌≤◌}
-use Rattle.std.specs.Prelude.{◌==◌, ◌&&◌}
-use Rattle.std.specs.List.{All, AllByRecursion, list_any}
-use Rattle.std.proofs.lemmas.Bool.{and_from, not_from_false}
+use Rattle.std.proofs.Common.{◌≡◌, ℕ, zero, suc, ◌+◌, ◌<◌, true, not, List, [], ◌∷◌, length, drop, refl, ap, subst, arith, ◌≤◌}
+use Rattle.std.specs.List.{All, list_any}
+use Rattle.std.proofs.lemmas.Bool.{and_from}
 use Rattle.std.proofs.lemmas.List.Elements.{recursion_from_All}
 use Rattle.row_types.specs.declared.tables.TableDef.{TableDef}
 use Rattle.row_types.specs.Valid.{are_distinct}

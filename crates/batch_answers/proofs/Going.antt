@@ -3,15 +3,14 @@
 --     back_put, back_unchanged, back_done      what an insert and a change note
 --     back_inserted, back_modified      by what came of them
 --     taken_back      the rows once all is taken back
-use Rattle.std.proofs.Common.{◌≡◌, ◌≢◌, ℕ, ◌≤◌, Result, Ok, Err, List, [], ◌∷◌, ◌++◌, length, take, drop, refl, ap, sym, subst, ◌∙◌, arith}
-use Rattle.std.proofs.lemmas.List.{take-append-le, take-append-drop, length-append, length-take-le}
+use Rattle.std.proofs.Common.{◌≡◌, ◌≢◌, ℕ, ◌≤◌, Result, Ok, Err, List, length, take, drop, refl, ap, sym, subst, ◌∙◌, arith}
+use Rattle.std.proofs.lemmas.List.{take-append-le, length-append}
 use Rattle.row_types.specs.declared.values.Value.{Value}
 use Rattle.open_index.specs.declared.codes.Code.{Code}
 use Rattle.table_rows.specs.declared.undo.Undo.{Undo}
 use Rattle.table_rows.specs.Rows.{State}
 use Rattle.table_rows.specs.Undoing.{since, undone_all, LeadsBack}
-use Rattle.table_rows.specs.Widths.{IsRoomier}
-use Rattle.table_rows.proofs.Undone.{leads_back_none, leads_back_more, since_end}
+use Rattle.table_rows.proofs.Undone.{leads_back_more}
 use Rattle.table_rows.proofs.Roomier.{roomier_itself, roomier_then, widened_roomier, leads_back_roomier}
 use Rattle.row_insert.specs.Insert.{IsPut, IsUnchanged}
 use Rattle.row_insert.specs.declared.inserts.Inserted.{Inserted}

@@ -2,21 +2,18 @@
 --     kept_alone, put_alone, alone_moved      rows alone
 --     without_moved, row_moved, put_moved      a row that goes, is read, or comes
 --     clashes_moved, dup_moved, size_moved      what stands in a row's way
-use Rattle.std.proofs.Common.{◌≡◌, ℕ, suc, ◌+◌, Bool, true, false, not, cond, List, [], ◌∷◌, map, filter, find, Option, Some, None, refl, ap, sym, subst, ◌∙◌}
-use Rattle.std.specs.Prelude.{◌==◌, ◌||◌, sum_by}
-use Rattle.std.specs.List.{list_any, position_from}
-use Rattle.std.proofs.lemmas.List.Sums.{sum_by-cons}
+use Rattle.std.proofs.Common.{◌≡◌, ℕ, ◌+◌, Bool, true, false, not, cond, List, [], ◌∷◌, map, find, Some, refl, ap, sym, ◌∙◌}
+use Rattle.std.specs.Prelude.{◌==◌, ◌||◌}
+use Rattle.std.specs.List.{position_from}
 use Rattle.index_tree.specs.Ordered.{with_item, is_below}
 use Rattle.index_tree.proofs.Elements.{each_member, filter_agree}
 use Rattle.index_tree.proofs.Through.{map_kept, map_put_between}
 use Rattle.row_types.specs.declared.values.Value.{Value}
 use Rattle.row_types.specs.declared.indexes.IndexDef.{IndexDef}
-use Rattle.row_types.specs.Size.{row_size}
 use Rattle.row_store.specs.Entries.{Entry, entry_cmp}
 use Rattle.table_rows.specs.Indexes.{primary_of}
 use Rattle.table_rows.specs.Slots.{is_in, row_in, row_of, with_row, without}
-use Rattle.table_rows.specs.Sizes.{entries_size}
-use Rattle.table_rows.specs.Checks.{meets, clashes, dup_index}
+use Rattle.table_rows.specs.Checks.{meets, clashes}
 use Rattle.batch_answers.specs.Database.{rows_alone}
 use Rattle.batch_answers.specs.Answers.{row_cmp}
 

@@ -7,16 +7,15 @@ use Rattle.std.specs.List.{AllByRecursion}
 use Rattle.std.proofs.lemmas.Bool.{true≢false, cases_lt, eqb-true, eq-eqb, ne_eqb}
 use Rattle.std.proofs.lemmas.List.{length-map, get_or-map, get_or_past}
 use Rattle.std.proofs.lemmas.List.Elements.{All-from_recursion}
-use Rattle.row_types.specs.declared.values.Value.{Value}
 use Rattle.row_store.specs.Entries.{Entry}
-use Rattle.table_rows.specs.Rows.{Rows, State, no_rows, def_of, rows_of, entries_of}
+use Rattle.table_rows.specs.Rows.{Rows, State, no_rows, rows_of}
 use Rattle.table_rows.specs.Slots.{is_in}
-use Rattle.table_rows.specs.Valid.{AreValidRows, IsValidState}
+use Rattle.table_rows.specs.Valid.{IsValidState}
 use Rattle.table_rows.proofs.BySlot.{HaveOwnSlots}
 use Rattle.table_rows.proofs.States.{rows_valid}
 use Rattle.batch_answers.specs.Database.{rows_alone, rows_in, placed_from, placed}
-use Rattle.batch_answers.proofs.Alone.{placed_alone, tables_placed}
-use Rattle.batch_answers.proofs.Moved.{moved, all_moved}
+use Rattle.batch_answers.proofs.Alone.{tables_placed}
+use Rattle.batch_answers.proofs.Moved.{all_moved}
 use Rattle.batch_answers.proofs.Changed.{AreMoved}
 
 -- the slots of entries

@@ -2,7 +2,7 @@
 --     part_ends, part_goes_on, rows_go_on      an item that ends its run, and one that doesn't
 --     ends_step, goes_step, rows_step      the same with all that was told before
 use Rattle.std.proofs.Common.{◌≡◌, ℕ, Bool, true, false, not, cond, List, [], ◌∷◌, ◌++◌, refl, ap, ap₂, sym, subst, ◌∙◌}
-use Rattle.std.specs.Prelude.{◌==◌, ◌&&◌}
+use Rattle.std.specs.Prelude.{◌==◌}
 use Rattle.std.proofs.lemmas.Bool.{true≢false, and_parts, eqb-true, not-true}
 use Rattle.std.proofs.lemmas.List.{append_assoc, append-nil}
 use Rattle.hs_outside.specs.declared.connections.ConnId.{ConnId}
@@ -13,7 +13,7 @@ use Rattle.line_pipeline.specs.Table.{same_id}
 use Rattle.batch_answers.specs.Database.{Database}
 use Rattle.batch_answers.specs.Answers.{answered, replies_to, after_all}
 use Rattle.batch_answers.specs.Batches.{with_item, runs_of, parts_of, after_runs}
-use Rattle.batch_answers.specs.Steps.{ends_run, behind, first_behind}
+use Rattle.batch_answers.specs.Steps.{ends_run, first_behind}
 
 -- an id that is the same is the same
 pub same_conn : (a b : ConnId) → same_id a b ≡ true → a ≡ b

@@ -1,8 +1,6 @@
 -- Replies, part by part.
 --     zero_written, code_written, count_written
-use Rattle.std.proofs.Common.{◌≡◌, ◌≢◌, ℕ, ◌<◌, ◌^◌, Bool, true, false, cond, List, [], ◌∷◌, ◌++◌, decimal, pos, refl, ap, sym, subst, ◌∙◌, arith, FitsSigned}
-use Rattle.std.specs.Prelude.{◌==◌}
-use Rattle.std.specs.Int.{w64}
+use Rattle.std.proofs.Common.{◌≡◌, ◌≢◌, ℕ, ◌<◌, ◌^◌, Bool, cond, List, [], ◌∷◌, ◌++◌, decimal, pos, ap, sym, subst, ◌∙◌, arith}
 use Rattle.std.specs.Fmt.{signed_decimal}
 use Rattle.std.proofs.lemmas.Bool.{ne_eqb}
 use Rattle.std.proofs.lemmas.List.{append_assoc, append-nil}

@@ -1,5 +1,5 @@
 -- A batch by its connections, and the part that each is answered.
-use Rattle.std.specs.Prelude.{ℕ, ⊤, List, [], ◌∷◌, if◌then◌else◌}
+use Rattle.std.specs.Prelude.{⊤, List, [], ◌∷◌, if◌then◌else◌}
 use Rattle.row_types.specs.declared.tables.Schema.{Schema}
 use Rattle.hs_outside.specs.declared.connections.ConnId.{ConnId}
 use Rattle.open_index.specs.Fits.{RequestFits}

@@ -11,7 +11,7 @@ use Rattle.find_filter.specs.declared.finds.FindSpec.{FindSpec}
 use Rattle.find_filter.specs.declared.mods.ModKind.{ModKind}
 use Rattle.find_filter.specs.declared.mods.ModSpec.{ModSpec}
 use Rattle.open_index.specs.declared.requests.InsertSpec.{InsertSpec}
-use Rattle.find_scan.specs.Examples.{some_schema, row, int}
+use Rattle.find_scan.specs.Examples.{some_schema, row}
 use Rattle.batch_answers.specs.Database.{Database}
 
 -- The only table with these rows, which may fill so many bytes.

@@ -1,8 +1,7 @@
 -- The replies that show no rows.
-use Rattle.std.specs.Prelude.{ℕ, suc, ◌==◌, List, [], ◌∷◌, length, get_or, codes, decimal, nat_lt, if◌then◌else◌}
+use Rattle.std.specs.Prelude.{ℕ, ◌==◌, List, [], ◌∷◌, get_or, codes, decimal, if◌then◌else◌}
 use Rattle.hs_token.specs.declared.tokens.Token.TheVariants.{Text}
 use Rattle.hs_token.specs.Spelling.{reply_line}
-use Rattle.find_scan.specs.Show.{most_reply}
 
 -- The texts of the refusals with the numbers from 0 on, of which 0 is none.
 abbrev pub refusal_texts : List (List ℕ)

@@ -46,8 +46,10 @@ pub fn worked_answers()
     ensures removed { request_answered (rows_within 0 four)
         (Modify (showing (0 ∷ []) (find_of 0 LessEqual 2 9 0)) (change_by Remove [] false))
         ≡ (count_reply 2, rows_within 0 (row 3 99 4 ∷ row 4 100 6 ∷ [])) }
-    ensures barred { request_answered (rows_within 0 four) (Insert (insert_of (0 ∷ 2 ∷ []) (int 1 ∷ int 7 ∷ [])))
+    ensures barred { request_answered (rows_within 0 four)
+        (Insert (insert_of (0 ∷ 2 ∷ []) (int 1 ∷ int 7 ∷ [])))
         ≡ (code_reply 16, rows_within 0 four) }
-    ensures full { request_answered (rows_within 0 four) (Insert (insert_of (0 ∷ 2 ∷ []) (int 0 ∷ int 7 ∷ [])))
+    ensures full { request_answered (rows_within 0 four)
+        (Insert (insert_of (0 ∷ 2 ∷ []) (int 0 ∷ int 7 ∷ [])))
         ≡ (code_reply 19, rows_within 0 four) }
 {}

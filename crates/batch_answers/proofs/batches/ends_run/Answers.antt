@@ -1,4 +1,3 @@
-use Rattle.std.proofs.Common.{◌≡◌}
 use Rattle.batch_answers.proofs.Fits.{ends_last}
 use Rattle.batch_answers.proofs.batches.ends_run.Goals as goal
 

@@ -1,4 +1,4 @@
-use Rattle.std.proofs.Common.{◌≡◌, length, ap, sym, subst, ◌∙◌}
+use Rattle.std.proofs.Common.{length, ap, sym, subst, ◌∙◌}
 use Rattle.find_filter.specs.Fits.{AreNumbers}
 use Rattle.table_rows.specs.Rows.{columns_of}
 use Rattle.find_modify.specs.Change.{changed_all}

@@ -1,5 +1,5 @@
-use Rattle.std.proofs.Common.{◌≡◌, ℕ, List, [], ◌∷◌, ◌++◌, ap, ap₂, ◌∙◌, arith}
-use Rattle.hs_token.specs.Spelling.{text_spelled, reply_head}
+use Rattle.std.proofs.Common.{ℕ, List, [], ◌∷◌, ◌++◌, ap, ap₂, ◌∙◌, arith}
+use Rattle.hs_token.specs.Spelling.{text_spelled}
 use Rattle.batch_answers.proofs.Written.{zero_written, code_written}
 use Rattle.batch_answers.proofs.codes.push_code.Goals as goal
 

@@ -1,8 +1,8 @@
-use Rattle.std.proofs.Common.{◌≡◌, ℕ, ℤ, pos, List, [], ◌∷◌, ◌++◌, ap, ap₂, sym, subst, ◌∙◌, arith, FitsSigned}
+use Rattle.std.proofs.Common.{ℕ, ℤ, List, [], ◌∷◌, ◌++◌, ap, ap₂, sym, subst, ◌∙◌, arith, FitsSigned}
 use Rattle.std.proofs.lemmas.Int.{to_z-of_z}
 use Rattle.std.specs.Int.{w64}
 use Rattle.std.specs.Fmt.{signed_decimal}
-use Rattle.hs_token.specs.Spelling.{text_spelled, reply_head}
+use Rattle.hs_token.specs.Spelling.{text_spelled}
 use Rattle.batch_answers.proofs.Written.{count_written}
 use Rattle.batch_answers.proofs.codes.push_count.Goals as goal
 

@@ -1,4 +1,4 @@
-use Rattle.std.proofs.Common.{◌≡◌, ℕ, List, Ok, ◌++◌, ap, sym, ◌∙◌}
+use Rattle.std.proofs.Common.{Ok, ◌++◌, ap, sym, ◌∙◌}
 use Rattle.std.proofs.lemmas.Result.{on_ok_weaker}
 use Rattle.table_rows.specs.Rows.{columns_of}
 use Rattle.row_insert.specs.declared.inserts.Inserted.TheVariants.{Done, Refused}
