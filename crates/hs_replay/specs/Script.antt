@@ -8,7 +8,8 @@ use Rattle.hs_outside.specs.declared.ports.Port.{Port}
 use Rattle.hs_outside.specs.declared.ports.Port.TheVariants as ports
 use Rattle.row_types.specs.declared.tables.TableDef.{TableDef}
 use Rattle.row_types.specs.declared.tables.Schema.{Schema}
-use Rattle.hs_schema.specs.Reading.{Breach, table_at}
+use Rattle.hs_schema.specs.Reading.{Breach}
+use Rattle.hs_schema.specs.Reading.{table_at as table_said}
 use Rattle.table_rows.specs.Sizes.{most_bytes}
 use Rattle.line_pipeline.specs.declared.secrets.Secrets.{Secrets}
 use Rattle.line_pipeline.specs.Conn.{secret_of}
@@ -116,7 +117,7 @@ breach_of (Err breach) = Some (BadTable breach.rule breach.token)
 
 -- The rules that an event breaks: only table lines have some.
 abbrev pub broken_by : Event → State → Option Flaw
-broken_by (events.Table line) s = breach_of (table_at s.schema.tables line)
+broken_by (events.Table line) s = breach_of (table_said s.schema.tables line)
 broken_by _ s = None
 
 -- Why an event may not come, if it may not.
@@ -142,7 +143,7 @@ with_one_more number port session = record session { conns = session.conns ++ op
 
 -- The state that an event leaves.
 abbrev pub after : Event → State → State
-after (events.Table line) s = record s { schema = record { tables = with_table s.schema.tables (table_at s.schema.tables line) } }
+after (events.Table line) s = record s { schema = record { tables = with_table s.schema.tables (table_said s.schema.tables line) } }
 after (events.LimitBytes most) s = record s { bytes_max = Some most }
 after (events.Secret port key) s = record s { secrets = with_secret s.secrets port key }
 after (events.Open number port) s =

@@ -16,7 +16,6 @@
 
 mod commands;
 mod ends;
-mod laws;
 mod program;
 mod replays;
 mod running;
@@ -26,5 +25,4 @@ mod tests;
 
 pub use commands::path_of;
 pub use ends::{BadLine, Ending, Flaw, Outcome, Step};
-pub use laws::example_scripts;
 pub use program::top;
