@@ -1,5 +1,5 @@
 -- A script: its lines, the events that they say, the state that the events lead through, and what they print.
-use Rattle.std.specs.Prelude.{ℕ, ◌+◌, List, [], ◌∷◌, ◌++◌, Bool, true, false, not, ◌&&◌, Option, Some, None, Result, Ok, Err, length, nat_lt, is_some, is_none, unwrap_or, ◌==◌, if◌then◌else◌}
+use Rattle.std.specs.Prelude.{ℕ, ◌+◌, List, [], ◌∷◌, ◌++◌, Bool, true, false, not, ◌&&◌, Option, Some, None, Result, Ok, Err, length, nat_lt, is_some, is_none, unwrap_or, option_map, ◌==◌, if◌then◌else◌}
 use Rattle.std.specs.Str.{bytes_eq}
 use Rattle.std.specs.List.{list_all, list_any}
 use Rattle.hs_line.specs.Lines.{lines_of, rest_of}
@@ -17,7 +17,7 @@ use Rattle.replay_script.specs.declared.events.Event.{Event}
 use Rattle.replay_script.specs.declared.events.Event.TheVariants as events
 use Rattle.replay_script.specs.Events.{event_of}
 use Rattle.batch_answers.specs.Database.{empty_database}
-use Rattle.replay_turns.specs.Linked.{Linked, linked_at, opened, on, peer_sent, peer_ended, with_room, failing_next}
+use Rattle.replay_turns.specs.Linked.{Linked, linked_at, has_ended, opened, on, peer_sent, peer_ended, with_room, failing_next}
 use Rattle.replay_turns.specs.Session.{Session, turn}
 use Rattle.replay_turns.specs.Shown.{table_at, rows_shown}
 use Rattle.hs_replay.specs.declared.ends.Flaw.{Flaw}
@@ -62,9 +62,9 @@ at_first s = record {
 abbrev pub session_of : State → Session
 session_of s = unwrap_or s.session (at_first s)
 
--- The connection of this number, if it is open.
-abbrev pub conn_in : ℕ → State → Option Linked
-conn_in number s = linked_at number (session_of s).conns
+-- The port of the connection of this number, if it is open.
+abbrev pub port_in : ℕ → State → Option Port
+port_in number s = option_map (λ l. l.port) (linked_at number (session_of s).conns)
 
 -- The state with these connections and rows.
 abbrev pub with_session : State → Session → State
@@ -81,9 +81,8 @@ abbrev pub is_among : ℕ → List ℕ → Bool
 is_among n ns = list_any (λ m. m == n) ns
 
 -- Whether a peer may send more: its connection is open, and it hasn't ended.
-abbrev pub may_send : Option Linked → Bool
-may_send None = false
-may_send (Some l) = not l.peer_ended
+abbrev pub may_send : ℕ → State → Bool
+may_send number s = is_some (port_in number s) && not (has_ended number (session_of s).conns)
 
 -- Whether two ports are one.
 abbrev pub same_port : Port → Port → Bool
@@ -92,10 +91,10 @@ same_port ports.Writing ports.Writing = true
 same_port ports.Sql ports.Sql = true
 same_port _ _ = false
 
--- Whether a connection is open, and on this port.
-abbrev pub is_on : Port → Option Linked → Bool
-is_on port None = false
-is_on port (Some l) = same_port l.port port
+-- Whether this is a port, and that one.
+abbrev pub is_port : Option Port → Port → Bool
+is_port None port = false
+is_port (Some held) port = same_port held port
 
 -- Whether an event may come. The head is over with the first event that is none of its lines.
 abbrev pub may_come : Event → State → Bool
@@ -103,11 +102,11 @@ may_come (events.Table line) s = is_none s.session
 may_come (events.LimitBytes most) s = is_none s.session && is_none s.bytes_max
 may_come (events.Secret port key) s = is_none s.session && is_none (secret_of s.secrets port)
 may_come (events.Open number port) s = not (is_among number s.opened) && nat_lt (length (session_of s).conns) 256
-may_come (events.Bytes number piece) s = may_send (conn_in number s)
-may_come (events.End number) s = may_send (conn_in number s)
-may_come (events.Room number count) s = is_some (conn_in number s)
-may_come (events.Fault number) s = is_some (conn_in number s)
-may_come (events.Turn port numbers) s = list_all (λ number. is_on port (conn_in number s)) numbers
+may_come (events.Bytes number piece) s = may_send number s
+may_come (events.End number) s = may_send number s
+may_come (events.Room number count) s = is_some (port_in number s)
+may_come (events.Fault number) s = is_some (port_in number s)
+may_come (events.Turn port numbers) s = list_all (λ number. is_port (port_in number s) port) numbers
 may_come (events.Show db name) s = is_some (table_at s.schema db name)
 
 -- The first rule that a table line breaks, and its token.

@@ -1,14 +1,13 @@
 //! What was said by the lines of a script so far, and what its next event does.
-ghost use Rattle.std.specs.Prelude.{◌≡◌, ◌≤◌, ◌++◌, length, nat_eq, true, option_map, OnOk, OnErr};
+ghost use Rattle.std.specs.Prelude.{◌≡◌, ◌≤◌, ◌++◌, length, nat_eq, true, is_none, option_map, OnOk, OnErr};
 ghost use Rattle.std.specs.List.{list_all};
 ghost use Rattle.row_types.specs.Valid.{are_distinct};
-ghost use Rattle.replay_turns.specs.Linked.{Linked};
 ghost use Rattle.replay_turns.specs.Session.{turn};
 ghost use Rattle.replay_turns.specs.Shown.{table_at, rows_shown};
 ghost use Rattle.replay_script.specs.Spelling.{IsEvent};
 ghost use Rattle.replay_script.specs.declared.events.Event.TheVariants as events;
 ghost use Rattle.hs_replay.specs.Script as script;
-ghost use Rattle.hs_replay.specs.Script.{may_come, after, session_of, with_session, is_on, same_port, may_send, conn_in};
+ghost use Rattle.hs_replay.specs.Script.{may_come, after, session_of, with_session, is_port, same_port, may_send, port_in};
 ghost use Rattle.hs_replay.specs.Running.{EventDoes, PrintDoes, TableDoes};
 
 use crate::ends::{Flaw, Outcome};
@@ -106,7 +105,11 @@ impl Replay {
             Event::Turn(_, numbers) => {
                 print(out, self.turn(alloc, numbers.as_slice(), text), text)
             }
-            Event::Show(db, name) => print(out, self.show(alloc, db.as_slice(), name.as_slice(), text), text),
+            Event::Show(db, name) => print(
+                out,
+                self.show(alloc, db.as_slice(), name.as_slice(), text),
+                text,
+            ),
         }
     }
 }
@@ -126,7 +129,11 @@ impl Replay {
             Event::Bytes(number, _) | Event::End(number) => self.may_send(*number),
             Event::Room(number, _) | Event::Fault(number) => self.port_of(*number).is_some(),
             Event::Turn(port, numbers) => self.are_on(*port, numbers.as_slice()),
-            Event::Show(db, name) => table_at(&self.schema, db.as_slice(), name.as_slice()).is_some(),
+            Event::Show(db, name) => table_at(
+                &self.schema,
+                db.as_slice(),
+                name.as_slice(),
+            ).is_some(),
         }
     }
 
@@ -142,7 +149,7 @@ impl Replay {
 
     // The port of a connection, if it is open.
     fn port_of(&self, number: u32) -> Option<Port>
-        ensures { result ≡ option_map (λ (l : Linked). l.port) (conn_in number self.now) }
+        ensures { result ≡ port_in number self.now }
     {
         match &self.session {
             None => None,
@@ -152,7 +159,7 @@ impl Replay {
 
     // Whether a peer may send more.
     fn may_send(&self, number: u32) -> bool
-        ensures { result ≡ may_send (conn_in number self.now) }
+        ensures { result ≡ may_send number self.now }
     {
         match &self.session {
             None => false,
@@ -162,7 +169,7 @@ impl Replay {
 
     // Whether connections are open, and on this port.
     fn are_on(&self, port: Port, numbers: &[u32]) -> bool
-        ensures { result ≡ list_all (λ number. is_on port (conn_in number self.now)) numbers.now }
+        ensures { result ≡ list_all (λ number. is_port (port_in number self.now) port) numbers.now }
     {
         for number in numbers {
             if !is_port(self.port_of(*number), port) {
@@ -198,6 +205,7 @@ fn same_port(a: Port, b: Port) -> bool
 impl Replay {
     // Adds the table of a line, or says which rule the line breaks.
     fn add_table(&mut self, alloc: Global, line: &[Token]) -> Outcome
+        requires { is_none self.old.session ≡ true }
         ensures { TableDoes result line.now self.old self.new }
     {
         match self.schema.add_table(alloc, line) {
@@ -275,12 +283,7 @@ impl Replay {
     }
 
     // One turn of these connections.
-    fn turn(
-        &mut self,
-        alloc: Global,
-        numbers: &[u32],
-        text: &mut Vec<u8>,
-    ) -> Result<(), AllocError>
+    fn turn(&mut self, alloc: Global, numbers: &[u32], text: &mut Vec<u8>) -> Result<(), AllocError>
         requires { are_distinct nat_eq numbers.now ≡ true }
         ensures state { OnOk result (self.new ≡ with_session self.old (turn numbers.now (session_of self.old)).1) }
         ensures text { OnOk result (text.new.items ≡ text.old.items ++ (turn numbers.now (session_of self.old)).0) }

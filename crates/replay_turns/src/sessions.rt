@@ -81,6 +81,7 @@ impl Session {
         requires { are_distinct nat_eq listed.now ≡ true }
         ensures session { OnOk result (self.new ≡ (turn listed.now self.old).1) }
         ensures text { OnOk result (text.new.items ≡ text.old.items ++ (turn listed.now self.old).0) }
+        ensures schema { self.new.schema ≡ self.old.schema }
     {
         self.connections.receive_all(listed)?;
         self.connections.answer(
@@ -96,9 +97,10 @@ impl Session {
 
     /// One more connection. Without memory, or where its table is full, there is none.
     pub fn open(&mut self, alloc: Global, number: u32, port: Port) -> Result<(), AllocError>
-        ensures { OnOk result (self.new ≡ record self.old {
+        ensures opened { OnOk result (self.new ≡ record self.old {
           conns = self.old.conns ++ opened self.old.secrets number port ∷ [];
         }) }
+        ensures schema { self.new.schema ≡ self.old.schema }
     {
         self.connections.open(alloc, number, port)
     }
@@ -126,9 +128,10 @@ impl Session {
 
     /// The peer has sent a piece.
     pub fn peer_bytes(&mut self, number: u32, piece: &[u8]) -> Result<(), AllocError>
-        ensures { OnOk result (self.new ≡ record self.old {
+        ensures sent { OnOk result (self.new ≡ record self.old {
           conns = on number (peer_sent piece.now) self.old.conns;
         }) }
+        ensures schema { self.new.schema ≡ self.old.schema }
     {
         self.connections.peer_bytes(number, piece)
     }

@@ -75,10 +75,22 @@ fn a_bad_line_has_its_number(rt: HostRuntime) -> Result<(), Fail> {
 fn a_table_line_breaks_a_rule_at_a_token(rt: HostRuntime) -> Result<(), Fail> {
     let alloc = rt.alloc();
     let cases: [(bool, &[u8], &[u8]); 4] = [
-        (false, b"table test t c id int not \x00\n", b"schema line 1 noprimary 8\n"),
-        (true, b"table test t c id int not \x00 i PRIMARY primary id\n", b"schema line 2 duplicate 2\n"),
+        (
+            false,
+            b"table test t c id int not \x00\n",
+            b"schema line 1 noprimary 8\n",
+        ),
+        (
+            true,
+            b"table test t c id int not \x00 i PRIMARY primary id\n",
+            b"schema line 2 duplicate 2\n",
+        ),
         (true, b"table 9 u\n", b"schema line 2 badname 1\n"),
-        (true, b"limit bytes 9\ntable test u c id real\n", b"schema line 3 badkind 5\n"),
+        (
+            true,
+            b"limit bytes 9\ntable test u c id real\n",
+            b"schema line 3 badkind 5\n",
+        ),
     ];
     for (with_table, lines, said) in cases {
         let script = script_of(alloc, with_table, lines)?;
@@ -146,14 +158,50 @@ fn words_that_are_no_command(rt: HostRuntime) -> Result<(), Fail> {
 #[test]
 fn faults_end_a_run(rt: HostRuntime) -> Result<(), Fail> {
     let alloc = rt.alloc();
-    let script = script_of(alloc, true, b"open 1 w\nbytes 1 x\x01J\nturn w 1\nturn w 1\n")?;
+    let script = script_of(
+        alloc,
+        true,
+        b"open 1 w\nbytes 1 x\x01J\nturn w 1\nturn w 1\n",
+    )?;
     let first: &[u8] = b"sent\t1\t1\x01I1\x01Icmd\x01J\n";
     let cases: [(Faults<'_>, u8, &[u8], &[u8]); 4] = [
-        (Faults { reads: &[1], ..NONE }, 5, b"", b"read fault\n"),
-        (Faults { reads: &[2], ..NONE }, 5, b"", b"read fault\n"),
-        (Faults { writes: &[1], ..NONE }, 6, b"", b"write fault\n"),
+        (
+            Faults {
+                reads: &[1],
+                ..NONE
+            },
+            5,
+            b"",
+            b"read fault\n",
+        ),
+        (
+            Faults {
+                reads: &[2],
+                ..NONE
+            },
+            5,
+            b"",
+            b"read fault\n",
+        ),
+        (
+            Faults {
+                writes: &[1],
+                ..NONE
+            },
+            6,
+            b"",
+            b"write fault\n",
+        ),
         // Four writes and a flush print the first line.
-        (Faults { writes: &[6], ..NONE }, 6, first, b"write fault\n"),
+        (
+            Faults {
+                writes: &[6],
+                ..NONE
+            },
+            6,
+            first,
+            b"write fault\n",
+        ),
     ];
     for (faults, status, sent, said) in cases {
         let (ended, out, err) = run_failing(alloc, &["replay", "j"], &script, faults)?;

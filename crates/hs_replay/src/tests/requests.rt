@@ -1,11 +1,11 @@
 //! What requests are answered, as dialogues over one connection. The replies are those of the protocol.
 use super::dialogue::{Part, TABLE, holds};
+use Part::{Line, Prints, Says, Sent};
 use std::test::Fail;
 
-use Part::{Line, Prints, Says, Sent};
-
 /// Ids 1, 4, 5 and 3 are opened on the primary index, id 2 on `by_n`.
-const OPENS: &[u8] = b"P 1 test t PRIMARY id,name,n\nP 2 test t by_n id\nP 3 test t PRIMARY id n,id\nP 4 test t PRIMARY n\nP 5 test t PRIMARY name\n";
+const OPENS: &[u8] =
+    b"P 1 test t PRIMARY id,name,n\nP 2 test t by_n id\nP 3 test t PRIMARY id n,id\nP 4 test t PRIMARY n\nP 5 test t PRIMARY name\n";
 
 const OPENED: &[u8] = b"0 1\n0 1\n0 1\n0 1\n0 1\n";
 
@@ -17,37 +17,47 @@ const TURN: Part = Line(b"turn w 1");
 
 #[test]
 fn a_row_is_inserted_and_found(rt: HostRuntime) -> Result<(), Fail> {
-    assert!(rt; holds(&rt, &[
-        Line(TABLE),
-        Line(b"open 1 w"),
-        Says(1, b"P 1 test t PRIMARY id,name,n\n1 + 3 1 ann 5\n1 = 1 1\n"),
-        TURN,
-        Sent(1, b"0 1\n0 1\n0 3 1 ann 5\n"),
-    ])?);
+    assert!(rt;
+        holds(
+            &rt,
+            &[
+                Line(TABLE),
+                Line(b"open 1 w"),
+                Says(1, b"P 1 test t PRIMARY id,name,n\n1 + 3 1 ann 5\n1 = 1 1\n"),
+                TURN,
+                Sent(1, b"0 1\n0 1\n0 3 1 ann 5\n"),
+            ]
+        )?
+    );
     Ok(())
 }
 
 /// Opens the ids, and has these lines answered.
 fn answers(rt: &HostRuntime, lines: &'static [u8], replies: &'static [u8]) -> Result<bool, Fail> {
-    holds(rt, &[
-        Line(TABLE),
-        Line(b"open 1 w"),
-        Says(1, OPENS),
-        TURN,
-        Sent(1, OPENED),
-        Says(1, lines),
-        TURN,
-        Sent(1, replies),
-    ])
+    holds(
+        rt,
+        &[
+            Line(TABLE),
+            Line(b"open 1 w"),
+            Says(1, OPENS),
+            TURN,
+            Sent(1, OPENED),
+            Says(1, lines),
+            TURN,
+            Sent(1, replies),
+        ],
+    )
 }
 
 #[test]
 fn every_byte_passes_and_null_is_no_empty_text(rt: HostRuntime) -> Result<(), Fail> {
-    assert!(rt; answers(
-        &rt,
-        b"1 + 3 2 \x01@\x01I\x01J\x01OA 7\n1 + 3 3 \x00 8\n1 + 3 4  9\n1 >= 1 2 3 0\n",
-        b"0 1\n0 1\n0 1\n0 3 2 \x01@\x01I\x01J\x01OA 7 3 \x00 8 4  9\n",
-    )?);
+    assert!(rt;
+        answers(
+            &rt,
+            b"1 + 3 2 \x01@\x01I\x01J\x01OA 7\n1 + 3 3 \x00 8\n1 + 3 4  9\n1 >= 1 2 3 0\n",
+            b"0 1\n0 1\n0 1\n0 3 2 \x01@\x01I\x01J\x01OA 7 3 \x00 8 4  9\n",
+        )?
+    );
     Ok(())
 }
 
@@ -70,17 +80,22 @@ fn rows_are_selected(rt: HostRuntime) -> Result<(), Fail> {
         (b"3 >= 1 1 4294967295 3\n", b"0 1 4\n"),
     ];
     for (line, reply) in cases {
-        assert!(rt; holds(&rt, &[
-            Line(TABLE),
-            Line(b"open 1 w"),
-            Says(1, OPENS),
-            Says(1, b"1 + 3 1 a 4\n1 + 3 2 b 4\n1 + 3 3 c 4\n1 + 3 4 d 6\n"),
-            TURN,
-            Sent(1, b"0 1\n0 1\n0 1\n0 1\n0 1\n0 1\n0 1\n0 1\n0 1\n"),
-            Says(1, line),
-            TURN,
-            Sent(1, reply),
-        ])?);
+        assert!(rt;
+            holds(
+                &rt,
+                &[
+                    Line(TABLE),
+                    Line(b"open 1 w"),
+                    Says(1, OPENS),
+                    Says(1, b"1 + 3 1 a 4\n1 + 3 2 b 4\n1 + 3 3 c 4\n1 + 3 4 d 6\n"),
+                    TURN,
+                    Sent(1, b"0 1\n0 1\n0 1\n0 1\n0 1\n0 1\n0 1\n0 1\n0 1\n"),
+                    Says(1, line),
+                    TURN,
+                    Sent(1, reply),
+                ]
+            )?
+        );
     }
     Ok(())
 }
@@ -139,7 +154,10 @@ fn lines_are_refused(rt: HostRuntime) -> Result<(), Fail> {
         (b"1 = 1 1 1 0 U 1 2 3 4\n", b"14 1 mod\n"),
         (b"1 = 1\n", b"2 1 args\n"),
         (b"1 = 1 1\r\n1 = 1 1\n", b"4 1 token\n0 3\n"),
-        (b"P 1 test t PRIMARY n\n1 + 1 7\n1 = 1 1\n", b"0 1\n17 1 null\n0 1\n"),
+        (
+            b"P 1 test t PRIMARY n\n1 + 1 7\n1 = 1 1\n",
+            b"0 1\n17 1 null\n0 1\n",
+        ),
         (b"P 9 test t PRIMARY id\n9 = 1 1\n", b"0 1\n0 1\n"),
     ];
     for (lines, replies) in cases {
@@ -150,58 +168,82 @@ fn lines_are_refused(rt: HostRuntime) -> Result<(), Fail> {
 
 #[test]
 fn a_port_has_its_own_lines_and_its_own_secret(rt: HostRuntime) -> Result<(), Fail> {
-    assert!(rt; holds(&rt, &[
-        Line(b"secret r k"),
-        Line(TABLE),
-        Line(b"open 1 r"),
-        Line(b"open 2 w"),
-        Says(1, b"P 1 test t PRIMARY id\nA 1 no\nA 1 k\nP 1 test t PRIMARY id,name,n\n1 + 3 9 x 1\n"),
-        Says(2, b"P 1 test t PRIMARY id\n"),
-        Line(b"turn r 1"),
-        Sent(1, b"3 1 unauth\n22 1 authkey\n0 1\n0 1\n9 1 readonly\n"),
-        Line(b"turn w 2"),
-        Sent(2, b"0 1\n"),
-    ])?);
+    assert!(rt;
+        holds(
+            &rt,
+            &[
+                Line(b"secret r k"),
+                Line(TABLE),
+                Line(b"open 1 r"),
+                Line(b"open 2 w"),
+                Says(
+                    1,
+                    b"P 1 test t PRIMARY id\nA 1 no\nA 1 k\nP 1 test t PRIMARY id,name,n\n1 + 3 9 x 1\n"
+                ),
+                Says(2, b"P 1 test t PRIMARY id\n"),
+                Line(b"turn r 1"),
+                Sent(1, b"3 1 unauth\n22 1 authkey\n0 1\n0 1\n9 1 readonly\n"),
+                Line(b"turn w 2"),
+                Sent(2, b"0 1\n"),
+            ]
+        )?
+    );
     Ok(())
 }
 
 #[test]
 fn rows_are_full_at_the_exact_byte(rt: HostRuntime) -> Result<(), Fail> {
     // Each row is of 87 bytes.
-    for (limit, third) in [(b"limit bytes 200".as_slice(), false), (b"limit bytes 261", true)] {
+    for (limit, third) in [
+        (b"limit bytes 200".as_slice(), false),
+        (b"limit bytes 261", true),
+    ] {
         let _ = third;
-        assert!(rt; holds(&rt, &[
-            Line(limit),
-            Line(TABLE),
-            Line(b"open 1 w"),
-            Says(1, OPENS),
-            Says(1, ANN),
-            Says(1, b"1 + 3 2 bob 5\n1 + 3 3 cat 5\n"),
-            TURN,
-            Sent(1, if third {
-                b"0 1\n0 1\n0 1\n0 1\n0 1\n0 1\n0 1\n0 1\n"
-            } else {
-                b"0 1\n0 1\n0 1\n0 1\n0 1\n0 1\n0 1\n19 1 full\n"
-            }),
-        ])?);
+        assert!(rt;
+            holds(
+                &rt,
+                &[
+                    Line(limit),
+                    Line(TABLE),
+                    Line(b"open 1 w"),
+                    Says(1, OPENS),
+                    Says(1, ANN),
+                    Says(1, b"1 + 3 2 bob 5\n1 + 3 3 cat 5\n"),
+                    TURN,
+                    Sent(
+                        1,
+                        if third {
+                            b"0 1\n0 1\n0 1\n0 1\n0 1\n0 1\n0 1\n0 1\n"
+                        } else {
+                            b"0 1\n0 1\n0 1\n0 1\n0 1\n0 1\n0 1\n19 1 full\n"
+                        }
+                    ),
+                ]
+            )?
+        );
     }
     Ok(())
 }
 
 #[test]
 fn rows_are_shown_by_primary_key(rt: HostRuntime) -> Result<(), Fail> {
-    assert!(rt; holds(&rt, &[
-        Line(TABLE),
-        Line(b"show test t"),
-        Line(b"open 1 w"),
-        Says(1, OPENS),
-        Says(1, b"1 + 3 7 \x00 1\n1 + 3 -2 b 9\n"),
-        TURN,
-        Sent(1, b"0 1\n0 1\n0 1\n0 1\n0 1\n0 1\n0 1\n"),
-        Line(b"show test t"),
-        Prints(b"row -2 b 9"),
-        Prints(b"row 7 \x00 1"),
-    ])?);
+    assert!(rt;
+        holds(
+            &rt,
+            &[
+                Line(TABLE),
+                Line(b"show test t"),
+                Line(b"open 1 w"),
+                Says(1, OPENS),
+                Says(1, b"1 + 3 7 \x00 1\n1 + 3 -2 b 9\n"),
+                TURN,
+                Sent(1, b"0 1\n0 1\n0 1\n0 1\n0 1\n0 1\n0 1\n"),
+                Line(b"show test t"),
+                Prints(b"row -2 b 9"),
+                Prints(b"row 7 \x00 1"),
+            ]
+        )?
+    );
     let _ = DONE;
     Ok(())
 }

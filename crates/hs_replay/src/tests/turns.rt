@@ -1,9 +1,8 @@
 //! Turns over several connections, pieces cut anywhere, links that are full or fail, and how connections close.
 use super::dialogue::{Part, TABLE, holds, push_part, run_script};
+use Part::{Line, Prints, Says, Sent};
 use std::alloc::{AllocError, Global};
 use std::test::Fail;
-
-use Part::{Line, Prints, Says, Sent};
 
 /// The lines that open id 1, insert a row and find it, and the replies to them.
 const ASKS: &[u8] = b"P 1 test t PRIMARY id,name,n\n1 + 3 1 ann 5\n1 = 1 1\n";
@@ -14,38 +13,48 @@ const TURN: Part = Line(b"turn w 1");
 
 #[test]
 fn a_later_connection_of_a_turn_sees_what_an_earlier_one_did(rt: HostRuntime) -> Result<(), Fail> {
-    assert!(rt; holds(&rt, &[
-        Line(TABLE),
-        Line(b"open 1 w"),
-        Line(b"open 2 w"),
-        Says(2, b"P 1 test t PRIMARY id,name,n\n"),
-        Says(1, b"P 1 test t PRIMARY id,name,n\n1 + 3 1 ann 5\n"),
-        Says(2, b"1 = 1 1\n"),
-        Line(b"turn w 1 2"),
-        Sent(1, b"0 1\n0 1\n"),
-        Sent(2, b"0 1\n0 3 1 ann 5\n"),
-        Says(1, b"1 = 1 1 1 0 + 1\n"),
-        Says(2, b"1 = 1 1\n"),
-        Line(b"turn w 2 1"),
-        Sent(2, b"0 3 1 ann 5\n"),
-        Sent(1, b"0 1 1\n"),
-    ])?);
+    assert!(rt;
+        holds(
+            &rt,
+            &[
+                Line(TABLE),
+                Line(b"open 1 w"),
+                Line(b"open 2 w"),
+                Says(2, b"P 1 test t PRIMARY id,name,n\n"),
+                Says(1, b"P 1 test t PRIMARY id,name,n\n1 + 3 1 ann 5\n"),
+                Says(2, b"1 = 1 1\n"),
+                Line(b"turn w 1 2"),
+                Sent(1, b"0 1\n0 1\n"),
+                Sent(2, b"0 1\n0 3 1 ann 5\n"),
+                Says(1, b"1 = 1 1 1 0 + 1\n"),
+                Says(2, b"1 = 1 1\n"),
+                Line(b"turn w 2 1"),
+                Sent(2, b"0 3 1 ann 5\n"),
+                Sent(1, b"0 1 1\n"),
+            ]
+        )?
+    );
     Ok(())
 }
 
 #[test]
 fn a_link_takes_what_it_has_room_for(rt: HostRuntime) -> Result<(), Fail> {
-    assert!(rt; holds(&rt, &[
-        Line(TABLE),
-        Line(b"open 1 w"),
-        Says(1, ASKS),
-        Line(b"room 1 3"),
-        TURN,
-        Sent(1, b"0 1"),
-        Line(b"room 1 100"),
-        TURN,
-        Sent(1, b"\n0 1\n0 3 1 ann 5\n"),
-    ])?);
+    assert!(rt;
+        holds(
+            &rt,
+            &[
+                Line(TABLE),
+                Line(b"open 1 w"),
+                Says(1, ASKS),
+                Line(b"room 1 3"),
+                TURN,
+                Sent(1, b"0 1"),
+                Line(b"room 1 100"),
+                TURN,
+                Sent(1, b"\n0 1\n0 3 1 ann 5\n"),
+            ]
+        )?
+    );
     Ok(())
 }
 
@@ -84,15 +93,20 @@ fn a_peer_that_ends_is_answered_first(rt: HostRuntime) -> Result<(), Fail> {
         (b"x\n", b"1 1 cmd\n"),
     ];
     for (said, sent) in cases {
-        assert!(rt; holds(&rt, &[
-            Line(TABLE),
-            Line(b"open 1 w"),
-            Says(1, said),
-            Line(b"end 1"),
-            TURN,
-            Sent(1, sent),
-            Prints(b"closed 1 ended"),
-        ])?);
+        assert!(rt;
+            holds(
+                &rt,
+                &[
+                    Line(TABLE),
+                    Line(b"open 1 w"),
+                    Says(1, said),
+                    Line(b"end 1"),
+                    TURN,
+                    Sent(1, sent),
+                    Prints(b"closed 1 ended"),
+                ]
+            )?
+        );
     }
     Ok(())
 }
@@ -130,7 +144,12 @@ fn a_turn_takes_256_lines_of_a_connection(rt: HostRuntime) -> Result<(), Fail> {
     for (lines, second) in [(257, 1), (300, 44)] {
         let mut script = Vec::new(alloc);
         let mut printed = Vec::new(alloc);
-        push_parts(alloc, &mut script, &mut printed, &[Line(TABLE), Line(b"open 1 w")])?;
+        push_parts(
+            alloc,
+            &mut script,
+            &mut printed,
+            &[Line(TABLE), Line(b"open 1 w")],
+        )?;
         script.extend_from_slice(b"bytes\t1\t")?;
         push_times(&mut script, b"x\x01J", lines)?;
         script.extend_from_slice(b"\nend\t1\nturn\tw\t1\nturn\tw\t1\n")?;
@@ -150,11 +169,12 @@ fn a_line_may_have_65536_bytes_and_no_more(rt: HostRuntime) -> Result<(), Fail> 
     for (len, is_long) in [(65_536, false), (65_537, true)] {
         let mut script = Vec::new(alloc);
         let mut printed = Vec::new(alloc);
-        push_parts(alloc, &mut script, &mut printed, &[
-            Line(TABLE),
-            Line(b"open 1 w"),
-            Says(1, b"x\n"),
-        ])?;
+        push_parts(
+            alloc,
+            &mut script,
+            &mut printed,
+            &[Line(TABLE), Line(b"open 1 w"), Says(1, b"x\n")],
+        )?;
         // In pieces, since a line of the script has a limit of its own.
         for _ in 0..len / 4096 {
             script.extend_from_slice(b"bytes\t1\t")?;
@@ -183,7 +203,12 @@ fn pieces_may_be_cut_anywhere(rt: HostRuntime) -> Result<(), Fail> {
     let asks: &[u8] = b"P\t1\ttest\tt\tPRIMARY\tid,name,n\n1\t+\t3\t1\tann\t5\n1\t=\t1\t1\n";
     let mut script = Vec::new(alloc);
     let mut printed = Vec::new(alloc);
-    push_parts(alloc, &mut script, &mut printed, &[Line(TABLE), Line(b"open 1 w")])?;
+    push_parts(
+        alloc,
+        &mut script,
+        &mut printed,
+        &[Line(TABLE), Line(b"open 1 w")],
+    )?;
     let mut line = 0;
     for byte in asks {
         script.extend_from_slice(b"bytes\t1\t")?;
@@ -212,7 +237,12 @@ fn a_link_with_room_for_one_byte_a_turn_gets_all(rt: HostRuntime) -> Result<(), 
     let alloc = rt.alloc();
     let mut script = Vec::new(alloc);
     let mut printed = Vec::new(alloc);
-    push_parts(alloc, &mut script, &mut printed, &[Line(TABLE), Line(b"open 1 w"), Says(1, ASKS)])?;
+    push_parts(
+        alloc,
+        &mut script,
+        &mut printed,
+        &[Line(TABLE), Line(b"open 1 w"), Says(1, ASKS)],
+    )?;
     let replies: &[u8] = b"0\t1\n0\t1\n0\t3\t1\tann\t5\n";
     for byte in replies {
         script.extend_from_slice(b"room\t1\t1\nturn\tw\t1\n")?;
