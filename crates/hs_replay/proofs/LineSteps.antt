@@ -1,17 +1,21 @@
 -- What one line of a script does to what is held of it, and what several parts do, one after another.
-use Rattle.std.proofs.Common.{◌≡◌, ◌∙◌, ℕ, ◌+◌, Bool, true, cond, Option, IfSome, inl, inr, List, [], ◌∷◌, ◌++◌, Some, None, refl, sym, ap, subst, append_assoc}
-use Rattle.std.specs.Prelude.{option_and_then}
-use Rattle.std.proofs.lemmas.Bool.{cases_Bool}
+use Rattle.std.proofs.Common.{◌≡◌, ◌∙◌, ℕ, ◌+◌, Option, IfSome, Result, Ok, Err, List, [], ◌∷◌, ◌++◌, Some, None, refl, sym, ap, subst, append_assoc}
 use Rattle.std.proofs.lemmas.List.{append-nil}
 use Rattle.hs_line.specs.Lines.{lines_of, rest_of}
 use Rattle.hs_line.proofs.LinesLemmas.{lines_of-append, rest_of-append}
 use Rattle.hs_outside.specs.Streams.{Taker, Grew, GrewPart}
-use Rattle.hs_outside.proofs.Known.{grew_none, grew_two, part_as, part_more, part_two, rose_from}
-use Rattle.hs_replay.specs.declared.events.Event.{Event}
+use Rattle.hs_outside.proofs.Known.{grew_none, grew_two, part_as, part_more, part_none, part_two, rose_from}
+use Rattle.replay_script.specs.declared.events.Event.{Event}
+use Rattle.replay_script.specs.Events.{event_of}
+use Rattle.hs_replay.specs.declared.ends.Flaw.{Flaw}
+use Rattle.hs_replay.specs.declared.ends.Flaw.TheVariants.{NoEvent}
+use Rattle.hs_replay.specs.declared.ends.BadLine.{BadLine}
+use Rattle.hs_replay.specs.declared.ends.Outcome.{Outcome}
+use Rattle.hs_replay.specs.declared.ends.Outcome.TheVariants as outcomes
 use Rattle.hs_replay.specs.declared.ends.Step.{Step}
 use Rattle.hs_replay.specs.declared.ends.Step.TheVariants as steps
-use Rattle.hs_replay.specs.Script.{State, event_of, event_in, is_allowed, after, printed, text_from, bad_line_from}
-use Rattle.hs_replay.specs.Running.{Held, to_print, bad_in, Leads, IsBad, StepDoes, EventDoes}
+use Rattle.hs_replay.specs.Script.{State, event_in, flaw_of, unless, placed, after, printed, text_from, bad_line_from, bad_line}
+use Rattle.hs_replay.specs.Running.{Held, to_print, bad_in, Leads, IsBad, StepDoes, EventDoes, step_of}
 
 -- ---- the first line
 
@@ -33,15 +37,15 @@ rest_on bytes line left more takes =
 abbrev pub with_line : Held → List ℕ → State → Held
 with_line h left state = record { bytes = left; lines = h.lines + 1; state = state }
 
-line_text : (h : Held) (line left rest : List ℕ) (event : Event) → Takes h.bytes line left → event_in h.state line ≡ Some event
+line_text : (h : Held) (line left rest : List ℕ) (event : Event) → Takes h.bytes line left → event_in h.state line ≡ Ok event
     → to_print h rest ≡ printed event h.state ++ to_print (with_line h left (after event h.state)) rest
 line_text h line left rest event takes e = rw (lines_on h.bytes line left rest takes, e) refl
 
-line_bad : (h : Held) (line left rest : List ℕ) (event : Event) → Takes h.bytes line left → event_in h.state line ≡ Some event
+line_bad : (h : Held) (line left rest : List ℕ) (event : Event) → Takes h.bytes line left → event_in h.state line ≡ Ok event
     → bad_in h rest ≡ bad_in (with_line h left (after event h.state)) rest
 line_bad h line left rest event takes e = rw (lines_on h.bytes line left rest takes, rest_on h.bytes line left rest takes, e) refl
 
-leads_line : (h : Held) (line left : List ℕ) (event : Event) (o p : Taker) → Takes h.bytes line left → event_in h.state line ≡ Some event
+leads_line : (h : Held) (line left : List ℕ) (event : Event) (o p : Taker) → Takes h.bytes line left → event_in h.state line ≡ Ok event
     → Grew o p (printed event h.state) → p.faults ≡ o.faults → Leads h (with_line h left (after event h.state)) o p []
 leads_line h line left event o p takes e grew same = record {
   text = printed event h.state;
@@ -51,29 +55,41 @@ leads_line h line left event o p takes e grew same = record {
   unfailed = same;
 }
 
-part_of_line : (h : Held) (line left : List ℕ) (event : Event) (o p : Taker) → Takes h.bytes line left → event_in h.state line ≡ Some event
+part_of_line : (h : Held) (line left : List ℕ) (event : Event) (o p : Taker) → Takes h.bytes line left → event_in h.state line ≡ Ok event
     → GrewPart o p (printed event h.state) → (rest : List ℕ) → GrewPart o p (to_print h ([] ++ rest))
 part_of_line h line left event o p takes e part rest =
     part_as o p _ _ (sym (line_text h line left rest event takes e)) (part_more o p (printed event h.state) _ part)
 
--- a line that is an event
-pub line_does : (step : Step) (h : Held) (line left : List ℕ) (event : Event) (state : State) (o p : Taker) → Takes h.bytes line left → event_in h.state line ≡ Some event
-    → EventDoes step event h.state state o p → StepDoes step h (with_line h left state) o p []
-line_does steps.Done h line left event state o p takes e does =
-    subst (λ (s : State). Leads h (with_line h left s) o p []) (sym (does.0 refl)) (leads_line h line left event o p takes e does.1.0 does.1.1)
-line_does (steps.Bad k) h line left event state o p takes e does = absurd does.1
-line_does steps.Unwritten h line left event state o p takes e does = (part_of_line h line left event o p takes e does.1.0, does.1.1)
-line_does steps.Memory h line left event state o p takes e does = (part_of_line h line left event o p takes e does.1.0, does.1.1)
+-- an event that has no flaw in its state is the line's there
+placed_is : (s : State) (said : Option Event) (event : Event) → said ≡ Some event → flaw_of event s ≡ None → placed s said ≡ Ok event
+placed_is s said event e none = rw (e, none) refl
 
--- a line that is none
-pub line_refused : (h : Held) (line left : List ℕ) (o : Taker) → Takes h.bytes line left → event_in h.state line ≡ None → IsBad h o o [] (h.lines + 1)
-line_refused h line left o takes e = record {
+flawed_is : (s : State) (said : Option Event) (event : Event) (flaw : Flaw) → said ≡ Some event → flaw_of event s ≡ Some flaw → placed s said ≡ Err flaw
+flawed_is s said event flaw e some = rw (e, some) refl
+
+-- a line that has a flaw
+pub line_refused : (h : Held) (line left : List ℕ) (o p : Taker) (flaw : Flaw) → Takes h.bytes line left → event_in h.state line ≡ Err flaw → p ≡ o
+    → IsBad h o p [] (bad_line (h.lines + 1) flaw)
+line_refused h line left o p flaw takes e same = record {
   text = [];
   prints = λ rest. rw (lines_on h.bytes line left rest takes, e) refl;
   bad = λ rest. rw (lines_on h.bytes line left rest takes, e) refl;
-  grew = grew_none o o refl;
-  unfailed = refl;
+  grew = grew_none o p (ap (λ (t : Taker). t.taken) same);
+  unfailed = ap (λ (t : Taker). t.faults) same;
 }
+
+-- a line that says an event
+pub line_does : (outcome : Outcome) (h : Held) (line left : List ℕ) (event : Event) (state : State) (o p : Taker) → Takes h.bytes line left → event_of line ≡ Some event
+    → EventDoes outcome event h.state state o p → StepDoes (step_of (h.lines + 1) outcome) h (with_line h left state) o p []
+line_does outcomes.Done h line left event state o p takes e does =
+    subst (λ (s : State). Leads h (with_line h left s) o p []) (sym does.1)
+    (leads_line h line left event o p takes (placed_is h.state (event_of line) event e does.0) does.2 does.3)
+line_does (outcomes.Refused flaw) h line left event state o p takes e does =
+    line_refused h line left o p flaw takes (flawed_is h.state (event_of line) event flaw e does.0) does.1
+line_does outcomes.Unwritten h line left event state o p takes e does =
+    (part_of_line h line left event o p takes (placed_is h.state (event_of line) event e does.0) does.1, does.2)
+line_does outcomes.Memory h line left event state o p takes e does =
+    (λ rest. part_none o p (to_print h ([] ++ rest)) (ap (λ (t : Taker). t.taken) does), ap (λ (t : Taker). t.faults) does)
 
 -- ---- several parts
 
@@ -101,7 +117,7 @@ steps_two steps.Done h m n o p q xs ys a b = record {
   grew = grew_two o p q a.text b.text a.grew b.grew;
   unfailed = b.unfailed ∙ a.unfailed;
 }
-steps_two (steps.Bad k) h m n o p q xs ys a b = record {
+steps_two (steps.Bad line) h m n o p q xs ys a b = record {
   text = a.text ++ b.text;
   prints = λ rest. ap (to_print h) (append_assoc xs ys rest) ∙ a.prints (ys ++ rest) ∙ ap (λ (t : List ℕ). a.text ++ t) (b.prints rest);
   bad = λ rest. ap (bad_in h) (append_assoc xs ys rest) ∙ a.bad (ys ++ rest) ∙ b.bad rest;
@@ -125,35 +141,19 @@ after_push step h n piece o q does =
 -- ---- the same, as the code takes the line
 
 pub refused_here : (h self : Held) (line left : List ℕ) (o : Taker) (number : ℕ) → h ≡ self → lines_of h.bytes ≡ line ∷ lines_of left → rest_of left ≡ rest_of h.bytes
-    → event_in h.state line ≡ None → number ≡ h.lines + 1 → IsBad self o o [] number
+    → event_of line ≡ None → number ≡ h.lines + 1 → IsBad self o o [] (bad_line number NoEvent)
 refused_here h self line left o number same first rest none is =
-    subst (λ (s : Held). IsBad s o o [] number) same
-    (subst (λ (k : ℕ). IsBad h o o [] k) (sym is) (line_refused h line left o (record { first = first; rest = rest }) none))
+    subst (λ (s : Held). IsBad s o o [] (bad_line number NoEvent)) same
+    (subst (λ (k : ℕ). IsBad h o o [] (bad_line k NoEvent)) (sym is)
+    (line_refused h line left o o NoEvent (record { first = first; rest = rest }) (ap (placed h.state) none) refl))
 
-pub done_here : (step : Step) (h self : Held) (line left : List ℕ) (event : Event) (state : State) (o p : Taker) (number : ℕ) → h ≡ self → lines_of h.bytes ≡ line ∷ lines_of left
-    → rest_of left ≡ rest_of h.bytes → event_in h.state line ≡ Some event → number ≡ h.lines + 1 → EventDoes step event h.state state o p
-    → StepDoes step self (record { bytes = left; lines = number; state = state }) o p []
-done_here step h self line left event state o p number same first rest said is does =
-    subst (λ (s : Held). StepDoes step s (record { bytes = left; lines = number; state = state }) o p []) same
-    (subst (λ (k : ℕ). StepDoes step h (record { bytes = left; lines = k; state = state }) o p []) (sym is)
-    (line_does step h line left event state o p (record { first = first; rest = rest }) said does))
-
-some_is : {A : Type 0} (x y : A) → Some x ≡ Some y → x ≡ y
-some_is x y e = cc
-
-allowed_in : (s : State) (said : Option Event) (event : Event) → option_and_then (λ e. cond (is_allowed e s) (Some e) None) said ≡ Some event → is_allowed event s ≡ true
-allowed_in s None event e = absurd cc
-allowed_in s (Some other) event e =
-    elim (cases_Bool (is_allowed other s)) [
-      | inl may ↦
-          let same : other ≡ event = some_is other event (sym (ap (λ (b : Bool). cond b (Some other) None) may) ∙ e) in
-          ap (λ (v : Event). is_allowed v s) (sym same) ∙ may
-      | inr may_not ↦ absurd (let none = sym (ap (λ (b : Bool). cond b (Some other) None) may_not) ∙ e in cc)
-    ]
-
--- the event that a line says in a state may come there
-pub is_allowed_in : (s : State) (line : List ℕ) (event : Event) → event_in s line ≡ Some event → is_allowed event s ≡ true
-is_allowed_in s line event e = allowed_in s (event_of line) event e
+pub done_here : (outcome : Outcome) (h self : Held) (line left : List ℕ) (event : Event) (state : State) (o p : Taker) (number : ℕ) → h ≡ self → lines_of h.bytes ≡ line ∷ lines_of left
+    → rest_of left ≡ rest_of h.bytes → event_of line ≡ Some event → number ≡ h.lines + 1 → EventDoes outcome event h.state state o p
+    → StepDoes (step_of number outcome) self (record { bytes = left; lines = number; state = state }) o p []
+done_here outcome h self line left event state o p number same first rest said is does =
+    subst (λ (s : Held). StepDoes (step_of number outcome) s (record { bytes = left; lines = number; state = state }) o p []) same
+    (subst (λ (k : ℕ). StepDoes (step_of k outcome) h (record { bytes = left; lines = k; state = state }) o p []) (sym is)
+    (line_does outcome h line left event state o p (record { first = first; rest = rest }) said does))
 
 pub first_of : (o : Option (List ℕ)) (line bytes left : List ℕ) → o ≡ Some line → IfSome o (λ l. lines_of bytes ≡ l ∷ lines_of left) → lines_of bytes ≡ line ∷ lines_of left
 first_of o line bytes left is first = subst (λ (p : Option (List ℕ)). IfSome p (λ l. lines_of bytes ≡ l ∷ lines_of left)) is first

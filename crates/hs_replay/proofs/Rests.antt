@@ -1,5 +1,5 @@
 -- Bytes after the last line: none, a line that isn't whole yet, or one that is too long already.
-use Rattle.std.proofs.Common.{◌≡◌, ◌∙◌, ℕ, ◌+◌, ◌<◌, ◌≤◌, true, false, leb, List, [], ◌∷◌, ◌++◌, length, Some, None, refl, sym, ap, subst, arith, append_assoc, length-append, inl, inr}
+use Rattle.std.proofs.Common.{◌≡◌, ◌∙◌, ℕ, ◌+◌, ◌<◌, ◌≤◌, true, false, leb, List, [], ◌∷◌, ◌++◌, length, Some, None, Err, refl, sym, ap, subst, arith, append_assoc, length-append, inl, inr}
 use Rattle.std.proofs.lemmas.Bool.{cases_Bool, lt-leb, ltb-false, ltb-true}
 use Rattle.std.proofs.lemmas.List.{append-nil}
 use Rattle.std.specs.Prelude.{◌||◌, not}
@@ -11,7 +11,10 @@ use Rattle.hs_outside.specs.Streams.{Taker}
 use Rattle.hs_outside.proofs.Known.{part_as, part_whole}
 use Rattle.hs_replay.specs.declared.ends.Step.{Step}
 use Rattle.hs_replay.specs.declared.ends.Step.TheVariants as steps
-use Rattle.hs_replay.specs.Script.{State, event_in, bad_line_from}
+use Rattle.replay_script.specs.Events.{event_of}
+use Rattle.hs_replay.specs.declared.ends.Flaw.TheVariants.{NoEvent}
+use Rattle.hs_replay.specs.declared.ends.BadLine.{BadLine}
+use Rattle.hs_replay.specs.Script.{State, event_in, placed, bad_line, bad_line_from}
 use Rattle.hs_replay.specs.Running.{Held, to_print, bad_in, Leads, IsBad, StepDoes, IsLongRest, RestIs}
 use Rattle.hs_replay.proofs.LineSteps.{after_push}
 
@@ -23,26 +26,25 @@ none_printed h line = rw (append-nil h.bytes, lines_of-none h.bytes line) refl
 pub bad_at_end : (h : Held) → IsLine h.bytes → bad_in h [] ≡ bad_line_from h.lines h.state [] h.bytes
 bad_at_end h line = rw (append-nil h.bytes, lines_of-none h.bytes line, rest_of-none h.bytes line) refl
 
-bad_with_some : (n b : ℕ) (bytes : List ℕ) (s : State) → bad_line_from n s [] (b ∷ bytes) ≡ Some (n + 1)
+bad_with_some : (n b : ℕ) (bytes : List ℕ) (s : State) → bad_line_from n s [] (b ∷ bytes) ≡ Some (bad_line (n + 1) NoEvent)
 bad_with_some n b bytes s = refl
 
-pub bad_with_bytes : (n : ℕ) (bytes : List ℕ) (s : State) → 0 < length bytes → bad_line_from n s [] bytes ≡ Some (n + 1)
+pub bad_with_bytes : (n : ℕ) (bytes : List ℕ) (s : State) → 0 < length bytes → bad_line_from n s [] bytes ≡ Some (bad_line (n + 1) NoEvent)
 bad_with_bytes n [] s lt = absurd (omega arith)
 bad_with_bytes n (b ∷ bytes) s lt = refl
 
-pub bad_between : (n : ℕ) (bytes : List ℕ) (s : State) → (not s.has_table || s.is_open) ≡ false → bad_line_from n s [] bytes ≡ Some (n + 1)
-bad_between n [] s e = rw e refl
-bad_between n (b ∷ bytes) s e = refl
-
 -- ---- a line that is too long
 
-long_line : (s : State) (line : List ℕ) → MAX_LINE_LEN < length line → event_in s line ≡ None
-long_line s line lt = let long : leb (length line) MAX_LINE_LEN ≡ false = lt-leb (length line) MAX_LINE_LEN lt in rw long refl
+long_is_none : (line : List ℕ) → MAX_LINE_LEN < length line → event_of line ≡ None
+long_is_none line lt = let long : leb (length line) MAX_LINE_LEN ≡ false = lt-leb (length line) MAX_LINE_LEN lt in rw long refl
+
+long_line : (s : State) (line : List ℕ) → MAX_LINE_LEN < length line → event_in s line ≡ Err NoEvent
+long_line s line lt = ap (placed s) (long_is_none line lt)
 
 -- what a line that is too long comes to, whatever follows
 pub record ComesToNothing (h : Held) (rest : List ℕ) : Type 0 where
   pub text : to_print h rest ≡ []
-  pub bad : bad_in h rest ≡ Some (h.lines + 1)
+  pub bad : bad_in h rest ≡ Some (bad_line (h.lines + 1) NoEvent)
 
 unended : (h : Held) (rest : List ℕ) → IsLine h.bytes → IsLine rest → IsLongRest h → ComesToNothing h rest
 unended h rest line more long =
@@ -58,7 +60,7 @@ ended h rest line starts long =
     let all : IsLine first = has_lf-append h.bytes starts.line ∙ rw (line, starts.is_line) refl in
     let parts : h.bytes ++ rest ≡ first ++ 10 ∷ starts.more = ap (λ (r : List ℕ). h.bytes ++ r) starts.parts ∙ sym (append_assoc h.bytes starts.line (10 ∷ starts.more)) in
     let lines : lines_of (h.bytes ++ rest) ≡ first ∷ lines_of starts.more = ap lines_of parts ∙ lines_of-line first starts.more all in
-    let refused : event_in h.state first ≡ None = long_line h.state first (omega (arith, length-append h.bytes starts.line)) in
+    let refused : event_in h.state first ≡ Err NoEvent = long_line h.state first (omega (arith, length-append h.bytes starts.line)) in
     record { text = rw (lines, refused) refl; bad = rw (lines, refused) refl }
 
 pub too_long : (h : Held) (rest : List ℕ) → IsLine h.bytes → IsLongRest h → ComesToNothing h rest
@@ -69,7 +71,7 @@ too_long h rest line long =
     ]
 
 -- lines were carried out, and the one behind them is too long
-pub long_rest : (h n : Held) (o p : Taker) (bytes : List ℕ) → Leads h n o p bytes → IsLine n.bytes → IsLongRest n → IsBad h o p bytes (n.lines + 1)
+pub long_rest : (h n : Held) (o p : Taker) (bytes : List ℕ) → Leads h n o p bytes → IsLine n.bytes → IsLongRest n → IsBad h o p bytes (bad_line (n.lines + 1) NoEvent)
 long_rest h n o p bytes a line long = record {
   text = a.text;
   prints = λ rest. a.prints rest ∙ ap (λ (t : List ℕ). a.text ++ t) ((too_long n rest line long).text) ∙ append-nil a.text;
@@ -86,17 +88,14 @@ is_long bytes line long = ltb-true MAX_LINE_LEN (length bytes) (sym (too_long-no
 
 -- ---- the same, as the code looks at what is held
 
-pub ends_between : (h self : Held) (number : ℕ) → h ≡ self → IsLine h.bytes → (not h.state.has_table || h.state.is_open) ≡ false → number ≡ h.lines + 1 → bad_in self [] ≡ Some number
-ends_between h self number same line between is =
-    subst (λ (s : Held). bad_in s [] ≡ Some number) same (bad_at_end h line ∙ bad_between h.lines h.bytes h.state between ∙ ap Some (sym is))
-
-pub ends_with_bytes : (h self : Held) (number : ℕ) → h ≡ self → IsLine h.bytes → 0 < length h.bytes → number ≡ h.lines + 1 → bad_in self [] ≡ Some number
+pub ends_with_bytes : (h self : Held) (number : ℕ) → h ≡ self → IsLine h.bytes → 0 < length h.bytes → number ≡ h.lines + 1 → bad_in self [] ≡ Some (bad_line number NoEvent)
 ends_with_bytes h self number same line some is =
-    subst (λ (s : Held). bad_in s [] ≡ Some number) same (bad_at_end h line ∙ bad_with_bytes h.lines h.bytes h.state some ∙ ap Some (sym is))
+    subst (λ (s : Held). bad_in s [] ≡ Some (bad_line number NoEvent)) same
+    (bad_at_end h line ∙ bad_with_bytes h.lines h.bytes h.state some ∙ ap (λ (k : ℕ). Some (bad_line k NoEvent)) (sym is))
 
 piece_and_rest : (step : Step) (h new : Held) (piece : List ℕ) (o q : Taker) → Leads h new o q piece → IsLine new.bytes → RestIs step new → StepDoes step h new o q piece
 piece_and_rest steps.Done h new piece o q leads line rest = leads
-piece_and_rest (steps.Bad k) h new piece o q leads line rest = subst (λ (n : ℕ). IsBad h o q piece n) (sym rest.1) (long_rest h new o q piece leads line rest.0)
+piece_and_rest (steps.Bad bad) h new piece o q leads line rest = subst (λ (b : BadLine). IsBad h o q piece b) (sym rest.1) (long_rest h new o q piece leads line rest.0)
 piece_and_rest steps.Unwritten h new piece o q leads line rest = absurd rest
 piece_and_rest steps.Memory h new piece o q leads line rest =
     (λ more. part_as o q _ _ (sym (leads.prints more)) (part_whole o q leads.text (to_print new more) leads.grew), leads.unfailed)

@@ -8,6 +8,7 @@ use Rattle.hs_line.specs.declared.limits.TheConstants.{MAX_LINE_LEN}
 use Rattle.hs_outside.specs.Streams.{Giver, Taker, Gave, Grew, GrewPart, Rose, ReadDoes}
 use Rattle.hs_outside.specs.declared.sources.Read.TheVariants as reads
 use Rattle.hs_outside.proofs.Known.{grew_as, part_as, part_whole, gave_two, gave_same, all_of, all_given, all_same, rose_from}
+use Rattle.hs_replay.specs.declared.ends.BadLine.{BadLine}
 use Rattle.hs_replay.specs.declared.ends.Step.TheVariants as steps
 use Rattle.hs_replay.specs.declared.ends.Ending.{Ending}
 use Rattle.hs_replay.specs.declared.ends.Ending.TheVariants as endings
@@ -37,13 +38,13 @@ gone_on s t u o p q h new piece way gave same leads drained room = record {
   room = room;
 }
 
-pub ends_bad : (s t u : Giver) (o p q : Taker) (h new : Held) (piece : List ℕ) (k : ℕ) → Partway s t o p h → Gave t u piece → u.faults ≡ t.faults
-    → StepDoes (steps.Bad k) h new p q piece → HasBadLine k s u o q
-ends_bad s t u o p q h new piece k way gave same does =
+pub ends_bad : (s t u : Giver) (o p q : Taker) (h new : Held) (piece : List ℕ) (line : BadLine) → Partway s t o p h → Gave t u piece → u.faults ≡ t.faults
+    → StepDoes (steps.Bad line) h new p q piece → HasBadLine line s u o q
+ends_bad s t u o p q h new piece line way gave same does =
     let bytes = way.bytes ++ piece in
     let rest = unwrap_or u.left [] in
     let gives = gave_two s t u way.bytes piece way.gave gave in
-    let both = steps_two (steps.Bad k) start h new o p q way.bytes piece way.leads does in
+    let both = steps_two (steps.Bad line) start h new o p q way.bytes piece way.leads does in
     record {
       bytes = bytes ++ rest;
       all = all_of s u bytes gives;
@@ -126,7 +127,7 @@ ends_at_end endings.Whole s t u o p h way does held = record {
   none_unread = does.3 ∙ way.none_unread;
   none_unwritten = way.leads.unfailed;
 }
-ends_at_end (endings.BadLine k) s t u o p h way does held = record {
+ends_at_end (endings.Bad line) s t u o p h way does held = record {
   bytes = way.bytes;
   all = all_given s t way.bytes way.gave does.0;
   given = way.bytes;

@@ -1,6 +1,3 @@
-pub mod Requests
-pub mod Rows
 pub mod Script
 pub mod Running
 pub mod Ends
-pub mod Examples

@@ -1,14 +1,16 @@
 //! A script that is read in pieces, line by line.
 ghost use Rattle.std.specs.Prelude.{◌≡◌, ◌+◌, ◌<◌, ◌≤◌, [], true, false, length, IfOk};
 ghost use Rattle.hs_line.specs.Lines.{has_lf};
-ghost use Rattle.hs_replay.specs.Running.{start, StepDoes, RestIs, HeldEnds};
+ghost use Rattle.hs_replay.specs.Script.{bad_line};
+ghost use Rattle.hs_replay.specs.Running.{start, step_of, StepDoes, RestIs, HeldEnds};
 ghost use Rattle.hs_replay.specs.Ends.{Ends};
 
-use crate::ends::{Ending, Step};
-use crate::replay_state::Replay;
+use crate::ends::{BadLine, Ending, Flaw, Outcome, Step};
+use crate::replays::Replay;
 use bytes::Bytes;
 use hs_line::{BUFFER_SIZE, LineBuf, MAX_LINE_LEN};
 use hs_outside::{Read, Sink, Source};
+use replay_script::event_of;
 use std::alloc::{AllocError, Global};
 use std::marker::Model;
 
@@ -21,6 +23,8 @@ struct Runner {
     held: LineBuf,
     lines: u64,
     replay: Replay,
+    // What an event prints. Its memory is used again and again.
+    text: Vec<u8>,
 }
 
 impl Model for Runner {
@@ -39,6 +43,7 @@ impl Runner {
             held: LineBuf::new(alloc)?,
             lines: 0,
             replay: Replay::new(alloc),
+            text: Vec::new(alloc),
         })
     }
 
@@ -55,14 +60,15 @@ impl Runner {
         let Ok(Some(line)) = self.held.take_line() else {
             return Step::Memory;
         };
-        let Ok(event) = self.replay.event_in(alloc, &line) else {
+        let Ok(event) = event_of(alloc, &line) else {
             return Step::Memory;
         };
         let Some(event) = event else {
-            return Step::Bad(number);
+            return no_event(number);
         };
         self.lines = number;
-        self.replay.take_event(alloc, out, event)
+        let outcome = self.replay.take_event(alloc, out, &mut self.text, event);
+        step_of(number, outcome)
     }
 
     /// Carries out the lines that are held, up to one that is not whole yet.
@@ -104,7 +110,7 @@ impl Runner {
             return Step::Done;
         }
         match self.lines.checked_add(1) {
-            Some(number) => Step::Bad(number),
+            Some(number) => no_event(number),
             None => Step::Memory,
         }
     }
@@ -114,13 +120,38 @@ impl Runner {
         requires { has_lf self.now.bytes ≡ false }
         ensures { HeldEnds result self.now }
     {
-        if self.held.room() == BUFFER_SIZE && self.replay.may_end() {
+        if self.held.room() == BUFFER_SIZE {
             return Ending::Whole;
         }
         match self.lines.checked_add(1) {
-            Some(number) => Ending::BadLine(number),
+            Some(number) => Ending::Bad(BadLine {
+                number,
+                flaw: Flaw::NoEvent,
+            }),
             None => Ending::Memory,
         }
+    }
+}
+
+/// The line of this number is no event.
+fn no_event(number: u64) -> Step
+    ensures { result ≡ Step.Bad (bad_line number Flaw.NoEvent) }
+{
+    Step::Bad(BadLine {
+        number,
+        flaw: Flaw::NoEvent,
+    })
+}
+
+/// What came of a line, by what came of its event.
+fn step_of(number: u64, outcome: Outcome) -> Step
+    ensures { result ≡ step_of number outcome }
+{
+    match outcome {
+        Outcome::Done => Step::Done,
+        Outcome::Refused(flaw) => Step::Bad(BadLine { number, flaw }),
+        Outcome::Unwritten => Step::Unwritten,
+        Outcome::Memory => Step::Memory,
     }
 }
 
@@ -138,7 +169,7 @@ pub fn run<S: Source, K: Sink>(alloc: Global, script: &mut S, out: &mut K) -> En
         match script.read(&mut buffer) {
             Read::Got(count) => match runner.take_piece(alloc, out, &buffer[..count]) {
                 Step::Done => {}
-                Step::Bad(number) => return Ending::BadLine(number),
+                Step::Bad(line) => return Ending::Bad(line),
                 Step::Unwritten => return Ending::Unwritten,
                 Step::Memory => return Ending::Memory,
             },

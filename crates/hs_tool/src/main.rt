@@ -1,4 +1,4 @@
-//! Replays a script of standard input against a table in memory: `hs_tool replay <journal>`.
+//! Replays a script of standard input on tables in memory: `hs_tool replay <journal>`.
 #![tactic(auto)]
 
 use hs_outside::{Sink, StreamSink, StreamSource, write_all};
@@ -12,14 +12,17 @@ const NO_MEMORY: u8 = 8;
 
 const HELP: &[u8] = b"usage: hs_tool replay <journal>
 
-Reads a script from standard input, carries out its events against one table in memory,
-and prints for each turn what the connection was sent. The journal is not opened yet.
+Reads a script from standard input and carries out its events on tables in memory:
+connections whose peers send pieces of request lines, and turns that answer them.
+Prints for each turn what its connections were sent and which of them closed, and
+the rows of a table where the script says show. The journal is not opened yet.
 
 A script is lines of tokens with one tab between neighbours. docs/FORMATS.md has its form,
-examples/first.script is one.
+examples/shop.script is one.
 
-Statuses: 0 whole, 2 no command, 4 a line that is no event, 5 a read failed,
-6 a write failed, 8 no memory. A line on standard error says which line, or what failed.
+Statuses: 0 whole, 2 no command, 3 a table line that breaks a rule, 4 a line that is no
+event in its place, 5 a read failed, 6 a write failed, 8 no memory. A line on standard
+error says which line, or what failed.
 ";
 
 /// The words behind the program's name. Words that aren't text are no command, as none are.

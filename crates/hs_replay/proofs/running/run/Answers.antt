@@ -5,7 +5,7 @@ use Rattle.hs_replay.proofs.running.run.Goals as goal
 pub returns-in-Bad-clause-ends : goal.returns-in-Bad-clause-ends
 returns-in-Bad-clause-ends g c =
     ends_bad (g.S.Source.giver c.args.script.now) (g.S.Source.giver c.loop.script) (g.S.Source.giver c.read.new.self)
-    (g.K.Sink.taker c.args.out.now) (g.K.Sink.taker c.loop.out) (g.K.Sink.taker c.take_piece.new.out) c.loop.runner c.take_piece.new.self (take c.in-Got.count c.read.new.buffer) c.in-Bad.number c.loop.invariant c.in-Got.ensures.gives.2 c.in-Got.ensures.gives.4 c.in-Bad.ensures.does
+    (g.K.Sink.taker c.args.out.now) (g.K.Sink.taker c.loop.out) (g.K.Sink.taker c.take_piece.new.out) c.loop.runner c.take_piece.new.self (take c.in-Got.count c.read.new.buffer) c.in-Bad.line c.loop.invariant c.in-Got.ensures.gives.2 c.in-Got.ensures.gives.4 c.in-Bad.ensures.does
 
 pub returns-in-Unwritten-clause-ends : goal.returns-in-Unwritten-clause-ends
 returns-in-Unwritten-clause-ends g c =

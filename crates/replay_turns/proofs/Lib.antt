@@ -1,0 +1,16 @@
+pub mod Lookups
+pub mod Rooms
+pub mod Pulling
+pub mod Sends
+pub mod Places
+pub mod Fitting
+pub mod Runs
+pub mod Settling
+pub mod Calls
+mod Shows
+mod Plays
+pub mod ToldLines
+pub mod Turns
+pub mod Answering
+pub mod Joined
+mod Empty

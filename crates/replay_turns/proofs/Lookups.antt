@@ -1,0 +1,135 @@
+-- A table of which one connection was changed.
+use Rattle.std.proofs.Common.{◌≡◌, ℕ, Bool, true, false, ◌||◌, List, [], ◌∷◌, Option, Some, None, option_map, is_some, refl, sym, ap, subst, ◌∙◌, ⊎_elim}
+use Rattle.std.specs.Prelude.{IfSome}
+use Rattle.std.proofs.lemmas.Bool.{cases_Bool}
+use Rattle.hs_outside.specs.declared.connections.ConnId.{ConnId}
+use Rattle.row_types.specs.declared.tables.Schema.{Schema}
+use Rattle.line_pipeline.specs.declared.conns.Conn.{Conn}
+use Rattle.line_pipeline.specs.declared.conns.Conn.TheVariants as conns
+use Rattle.line_pipeline.specs.declared.reasons.Reason.{Reason}
+use Rattle.line_pipeline.specs.Live.{Live, ending}
+use Rattle.line_pipeline.specs.Output.{IsFront}
+use Rattle.line_pipeline.specs.Conn.{unsent_of, fed, ended, sent_off, closed, finished}
+use Rattle.line_pipeline.specs.Table.{Table, same_id, conn_at, is_held, changed, all_changed}
+use Rattle.line_pipeline.proofs.TableLemmas.{conn_at-changed, kept}
+use Rattle.replay_turns.specs.declared.entries.Entry.{Entry}
+use Rattle.replay_turns.specs.Entries.{conn_or_none, conn_of, ConnFits, Keeps, KeepsLink}
+
+-- ---- the connection of this id
+
+pub conn_at-own : (f : Conn → Conn) (id : ConnId) (cs : List (ConnId × Conn)) → conn_at (changed id f cs) id ≡ option_map f (conn_at cs id)
+conn_at-own f id [] = refl
+conn_at-own f id (c ∷ cs) =
+    ⊎_elim
+    (λ is. rw is (rw is refl))
+    (λ other. rw other (rw other (conn_at-own f id cs)))
+    (cases_Bool (same_id c.0 id))
+
+held-map : (f : Conn → Conn) (o : Option Conn) → is_some o ≡ true → is_some (option_map f o) ≡ true
+held-map f None is = is
+held-map f (Some conn) is = refl
+
+or_none-map : (f : Conn → Conn) (o : Option Conn) → is_some o ≡ true → conn_or_none (option_map f o) ≡ f (conn_or_none o)
+or_none-map f None is = cc
+or_none-map f (Some conn) is = refl
+
+pub conn_of-own : (f : Conn → Conn) (id : ConnId) (old new : Table) → new ≡ record old { conns = changed id f old.conns } → is_held old.conns id ≡ true → conn_of new.conns id ≡ f (conn_of old.conns id)
+conn_of-own f id old new is held =
+    ap (λ (t : Table). conn_of t.conns id) is
+    ∙ ap conn_or_none (conn_at-own f id old.conns)
+    ∙ or_none-map f (conn_at old.conns id) held
+
+-- what is said of the connection that is found
+pub found-is : {X : Type 0} (g : Conn → X) (o : Option Conn) (x : X) → option_map g o ≡ Some x → g (conn_or_none o) ≡ x
+found-is g None x is = cc
+found-is g (Some conn) x is = cc
+
+-- ---- what is kept
+
+-- A change that keeps open ids that fit.
+abbrev pub KeepsFit : (Conn → Conn) → Type 0
+KeepsFit f = (schema : Schema) (conn : Conn) → ConnFits schema conn → ConnFits schema (f conn)
+
+pub fits-fed : (piece : List ℕ) → KeepsFit (fed piece)
+fits-fed piece schema (conns.Live l) fits = fits
+fits-fed piece schema (conns.Closed reason) fits = tt
+
+pub fits-ended : KeepsFit ended
+fits-ended schema (conns.Live l) fits = fits
+fits-ended schema (conns.Closed reason) fits = tt
+
+pub fits-sent_off : (count : ℕ) → KeepsFit (sent_off count)
+fits-sent_off count schema (conns.Live l) fits = fits
+fits-sent_off count schema (conns.Closed reason) fits = tt
+
+pub fits-closed : (reason : Reason) → KeepsFit (closed reason)
+fits-closed reason schema (conns.Live l) fits = tt
+fits-closed reason schema (conns.Closed first) fits = tt
+
+finished-by : (schema : Schema) (l : Live) (e : Option Reason) → ending l ≡ e → ConnFits schema (conns.Live l) → ConnFits schema (finished (conns.Live l))
+finished-by schema l None is fits = let same : finished (conns.Live l) ≡ conns.Live l = rw is refl in subst (λ (conn : Conn). ConnFits schema conn) (sym same) fits
+finished-by schema l (Some reason) is fits = let same : finished (conns.Live l) ≡ conns.Closed reason = rw is refl in subst (λ (conn : Conn). ConnFits schema conn) (sym same) tt
+
+pub fits-finished : KeepsFit finished
+fits-finished schema (conns.Live l) fits = finished-by schema l (ending l) refl fits
+fits-finished schema (conns.Closed reason) fits = tt
+
+fits-map : (f : Conn → Conn) → KeepsFit f → (schema : Schema) (o : Option Conn) → ConnFits schema (conn_or_none o) → ConnFits schema (conn_or_none (option_map f o))
+fits-map f keeps schema None fits = tt
+fits-map f keeps schema (Some conn) fits = keeps schema conn fits
+
+pub keeps-changed : (f : Conn → Conn) (id : ConnId) (old new : Table) → KeepsFit f → new ≡ record old { conns = changed id f old.conns } → Keeps id old new
+keeps-changed f id old new keeps is =
+    let at : conn_at new.conns id ≡ option_map f (conn_at old.conns id) = ap (λ (t : Table). conn_at t.conns id) is ∙ conn_at-own f id old.conns in
+    record {
+      rest = kept old old new _ refl is;
+      others = λ other apart. ap (λ (t : Table). conn_at t.conns other) is ∙ conn_at-changed f id other old.conns apart;
+      held = λ held. subst (λ (o : Option Conn). is_some o ≡ true) (sym at) (held-map f (conn_at old.conns id) held);
+      fits = λ fits. subst (λ (o : Option Conn). ConnFits old.schema (conn_or_none o)) (sym at) (fits-map f keeps old.schema (conn_at old.conns id) fits);
+    }
+
+pub keeps-none : (id : ConnId) (table : Table) → Keeps id table table
+keeps-none id table = record { rest = refl; others = λ other apart. refl; held = λ held. held; fits = λ fits. fits }
+
+pub keeps-then : (id : ConnId) (a b c : Table) → Keeps id a b → Keeps id b c → Keeps id a c
+keeps-then id a b c first second =
+    let schema : b.schema ≡ a.schema = ap (λ (t : Table). t.schema) first.rest in
+    record {
+      rest = kept a b c _ first.rest second.rest;
+      others = λ other apart. second.others other apart ∙ first.others other apart;
+      held = λ held. second.held (first.held held);
+      fits = λ fits. subst (λ (s : Schema). ConnFits s (conn_of c.conns id)) schema (second.fits (subst (λ (s : Schema). ConnFits s (conn_of b.conns id)) (sym schema) (first.fits fits)));
+    }
+
+-- ---- an entry of which only the link was changed
+
+same_id_of : (e f : Entry) → KeepsLink e f → f.id ≡ e.id
+same_id_of e f link = ap (λ (x : Entry). x.id) link.rest
+
+pub keeps_at : (e f : Entry) (old new : Table) → KeepsLink e f → Keeps f.id old new → Keeps e.id old new
+keeps_at e f old new link keeps = subst (λ (id : ConnId). Keeps id old new) (same_id_of e f link) keeps
+
+pub held_at : (e f : Entry) (old new : Table) → KeepsLink e f → Keeps e.id old new → is_held old.conns e.id ≡ true → is_held new.conns f.id ≡ true
+held_at e f old new link keeps held = subst (λ (id : ConnId). is_held new.conns id ≡ true) (sym (same_id_of e f link)) (keeps.held held)
+
+-- ---- a list of one id
+
+or_none : (b : Bool) → (b || false) ≡ b
+or_none true = refl
+or_none false = refl
+
+all_one : (f : Conn → Conn) (id : ConnId) (cs : List (ConnId × Conn)) → all_changed (id ∷ []) f cs ≡ changed id f cs
+all_one f id [] = refl
+all_one f id (c ∷ cs) = rw (or_none (same_id c.0 id), all_one f id cs) refl
+
+pub one_changed : (f : Conn → Conn) (id : ConnId) (old new : Table) → new ≡ record old { conns = all_changed (id ∷ []) f old.conns } → new ≡ record old { conns = changed id f old.conns }
+one_changed f id old new is = is ∙ ap (λ (cs : List (ConnId × Conn)). record old { conns = cs }) (all_one f id old.conns)
+
+-- ---- the bytes that wait
+
+front_by : (piece : List ℕ) (o : Option Conn) → is_some o ≡ true → IfSome o (λ conn. IsFront piece (unsent_of conn)) → IsFront piece (unsent_of (conn_or_none o))
+front_by piece None is front = cc
+front_by piece (Some conn) is front = front
+
+pub front-is : (piece : List ℕ) (cs : List (ConnId × Conn)) (id : ConnId) → is_held cs id ≡ true → IfSome (conn_at cs id) (λ conn. IsFront piece (unsent_of conn)) → IsFront piece (unsent_of (conn_of cs id))
+front-is piece cs id held front = front_by piece (conn_at cs id) held front

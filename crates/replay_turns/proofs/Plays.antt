@@ -1,0 +1,30 @@
+-- The table of the tests.
+use Rattle.std.proofs.Common.{refl, arith}
+use Rattle.row_types.specs.Valid.{IsValid}
+use Rattle.replay_turns.specs.Examples.{some_schema}
+
+pub some_schema_valid : IsValid some_schema
+some_schema_valid = record {
+  tables = (
+    record {
+      db = refl;
+      name = refl;
+      columns = record {
+        each = (record { name = refl; kind = refl; preset = refl; held = tt }, (record { name = refl; kind = refl; preset = refl; held = tt }, tt));
+        some = omega arith;
+        most = omega arith;
+        names = refl;
+        rows = omega arith;
+      };
+      indexes = record {
+        each = (record { name = refl; kind = refl; some_part = omega arith; most_parts = omega arith; within = refl; once = refl; never_null = refl }, (record { name = refl; kind = refl; some_part = omega arith; most_parts = omega arith; within = refl; once = refl; never_null = refl }, tt));
+        most = omega arith;
+        names = refl;
+        primary = refl;
+      };
+    },
+    tt,
+  );
+  most = omega arith;
+  names = refl;
+}

@@ -1,0 +1,38 @@
+-- What connections are answered in a turn.
+use Rattle.std.specs.Prelude.{ℕ, List, [], ◌∷◌, Option, Some, None}
+use Rattle.row_types.specs.declared.tables.Schema.{Schema}
+use Rattle.line_pipeline.specs.declared.batches.ItemKind.{ItemKind}
+use Rattle.line_pipeline.specs.declared.conns.Conn.{Conn}
+use Rattle.line_pipeline.specs.declared.conns.Conn.TheVariants as conns
+use Rattle.line_pipeline.specs.Live.{kinds_of, taken_lines}
+use Rattle.line_pipeline.specs.Conn.{took, answered}
+use Rattle.batch_answers.specs.Database.{Database}
+use Rattle.batch_answers.specs.Answers.{replies_to, after_all}
+use Rattle.replay_turns.specs.Linked.{Linked, linked_at, on}
+
+-- What the lines that are taken of it ask for.
+abbrev pub asked : Schema → Conn → List ItemKind
+asked schema (conns.Live l) = kinds_of schema l.port l.handles l.auth (taken_lines l)
+asked schema (conns.Closed reason) = []
+
+-- It without these lines, with the replies to them at the end of its output. One that gives no line stays as it is.
+abbrev pub replied : Schema → Database → Conn → Conn
+replied schema db conn = by (asked schema conn) where
+  by : List ItemKind → Conn
+  by [] = conn
+  by (kind ∷ kinds) = answered (replies_to db (kind ∷ kinds)) (took schema conn)
+
+-- The same of it and its link.
+abbrev pub with_replies : Schema → Database → Linked → Linked
+with_replies schema db l = record l { conn = replied schema db l.conn }
+
+-- The rows that the requests of a connection leave, if there is one.
+abbrev pub rows_after : Schema → Database → Option Linked → Database
+rows_after schema db None = db
+rows_after schema db (Some l) = after_all db (asked schema l.conn)
+
+-- The rows and the connections once those of these numbers were answered, one after another.
+abbrev pub all_replied : Schema → List ℕ → Database → List Linked → Database × List Linked
+all_replied schema [] db ls = (db, ls)
+all_replied schema (number ∷ numbers) db ls =
+    all_replied schema numbers (rows_after schema db (linked_at number ls)) (on number (with_replies schema db) ls)
