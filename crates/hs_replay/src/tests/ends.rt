@@ -24,80 +24,115 @@ fn script_of(alloc: Global, with_table: bool, lines: &[u8]) -> Result<Vec<u8>, A
     Ok(script)
 }
 
+/// Whether the line that is said to be bad is the first bad one of a script of these lines behind the table.
+fn is_bad(rt: &HostRuntime, lines: &[u8], said: &[u8]) -> Result<bool, Fail> {
+    let alloc = rt.alloc();
+    let script = script_of(alloc, true, lines)?;
+    let ran = run_script(alloc, &script, 7)?;
+    Ok(ran.status == 4 && ran.err.bytes() == said)
+}
+
 #[test]
 fn a_bad_line_has_its_number(rt: HostRuntime) -> Result<(), Fail> {
-    let alloc = rt.alloc();
-    let cases: [(&[u8], &[u8]); 31] = [
-        (b"\n", b"script line 2\n"),
-        (b"turn w 9\n", b"script line 2\n"),
-        (b"open 1 w", b"script line 2\n"),
-        (b"open 1 x\n", b"script line 2\n"),
-        (b"open 1 s\n", b"script line 2\n"),
-        (b"open 1 w 1\n", b"script line 2\n"),
-        (b"open 1 w\nopen 1 w\n", b"script line 3\n"),
-        (b"open 1 w\nopen 01 r\n", b"script line 3\n"),
-        (b"open 1 w\nturn r 1\n", b"script line 3\n"),
-        (b"open 1 w\nturn w\n", b"script line 3\n"),
-        (b"open 1 w\nturn w 1 1\n", b"script line 3\n"),
-        (b"open 1 w\nturn w 1 2\n", b"script line 3\n"),
-        (b"open 1 w\nturn w 1\r\n", b"script line 3\n"),
-        (b"open 1 w\nbytes 1\n", b"script line 3\n"),
-        (b"open 1 w\nbytes 2 x\n", b"script line 3\n"),
-        (b"open 1 w\nbytes 1 \x00\n", b"script line 3\n"),
-        (b"open 1 w\nend 1\nend 1\n", b"script line 4\n"),
-        (b"open 1 w\nend 1\nbytes 1 x\n", b"script line 4\n"),
-        (b"open 1 w\nroom 2 1\n", b"script line 3\n"),
-        (b"open 1 w\nroom 1 4294967296\n", b"script line 3\n"),
-        (b"fault 1\n", b"script line 2\n"),
-        (b"show test u\n", b"script line 2\n"),
-        (b"show test\n", b"script line 2\n"),
-        // A connection that has closed is no longer open, and its number isn't used again.
-        (b"open 1 w\nend 1\nturn w 1\nturn w 1\n", b"script line 5\n"),
-        (b"open 1 w\nend 1\nturn w 1\nopen 1 w\n", b"script line 5\n"),
-        // The head is over with the first event.
-        (b"open 1 w\nlimit bytes 9\n", b"script line 3\n"),
-        (b"open 1 w\nsecret r k\n", b"script line 3\n"),
-        (b"open 1 w\ntable x\n", b"script line 3\n"),
-        (b"limit bytes 9\nlimit bytes 9\n", b"script line 3\n"),
-        (b"secret r k\nsecret w k\nsecret r k\n", b"script line 4\n"),
-        (b"limit bytes 0\n", b"script line 2\n"),
-    ];
-    for (lines, said) in cases {
-        let script = script_of(alloc, true, lines)?;
-        let ran = run_script(alloc, &script, 7)?;
-        assert_eq!(rt; ran.status, 4);
-        assert!(rt; ran.err.bytes() == said);
-    }
+    assert!(rt; is_bad(&rt, b"\n", b"script line 2\n")?);
+    assert!(rt; is_bad(&rt, b"turn w 9\n", b"script line 2\n")?);
+    assert!(rt; is_bad(&rt, b"open 1 w", b"script line 2\n")?);
+    assert!(rt; is_bad(&rt, b"open 1 x\n", b"script line 2\n")?);
+    assert!(rt; is_bad(&rt, b"open 1 s\n", b"script line 2\n")?);
+    assert!(rt; is_bad(&rt, b"open 1 w 1\n", b"script line 2\n")?);
+    assert!(rt; is_bad(&rt, b"open 1 w\nopen 1 w\n", b"script line 3\n")?);
+    assert!(rt; is_bad(&rt, b"open 1 w\nopen 01 r\n", b"script line 3\n")?);
+    assert!(rt; is_bad(&rt, b"open 1 w\nturn r 1\n", b"script line 3\n")?);
+    assert!(rt; is_bad(&rt, b"open 1 w\nturn w\n", b"script line 3\n")?);
+    assert!(rt; is_bad(&rt, b"open 1 w\nturn w 1 1\n", b"script line 3\n")?);
+    assert!(rt; is_bad(&rt, b"open 1 w\nturn w 1 2\n", b"script line 3\n")?);
     Ok(())
 }
 
 #[test]
-fn a_table_line_breaks_a_rule_at_a_token(rt: HostRuntime) -> Result<(), Fail> {
+fn an_event_that_may_not_come_has_its_number(rt: HostRuntime) -> Result<(), Fail> {
+    assert!(rt; is_bad(&rt, b"open 1 w\nturn w 1\r\n", b"script line 3\n")?);
+    assert!(rt; is_bad(&rt, b"open 1 w\nbytes 1\n", b"script line 3\n")?);
+    assert!(rt; is_bad(&rt, b"open 1 w\nbytes 2 x\n", b"script line 3\n")?);
+    assert!(rt; is_bad(&rt, b"open 1 w\nbytes 1 \x00\n", b"script line 3\n")?);
+    assert!(rt; is_bad(&rt, b"open 1 w\nend 1\nend 1\n", b"script line 4\n")?);
+    assert!(rt; is_bad(&rt, b"open 1 w\nend 1\nbytes 1 x\n", b"script line 4\n")?);
+    assert!(rt; is_bad(&rt, b"open 1 w\nroom 2 1\n", b"script line 3\n")?);
+    assert!(rt; is_bad(&rt, b"open 1 w\nroom 1 4294967296\n", b"script line 3\n")?);
+    assert!(rt; is_bad(&rt, b"fault 1\n", b"script line 2\n")?);
+    assert!(rt; is_bad(&rt, b"show test u\n", b"script line 2\n")?);
+    assert!(rt; is_bad(&rt, b"show test\n", b"script line 2\n")?);
+    // A connection that has closed is no longer open, and its number isn't used again.
+    assert!(rt;
+        is_bad(
+            &rt,
+            b"open 1 w\nend 1\nturn w 1\nturn w 1\n",
+            b"script line 5\n"
+        )?
+    );
+    assert!(rt;
+        is_bad(
+            &rt,
+            b"open 1 w\nend 1\nturn w 1\nopen 1 w\n",
+            b"script line 5\n"
+        )?
+    );
+    Ok(())
+}
+
+#[test]
+fn the_head_is_over_with_the_first_event(rt: HostRuntime) -> Result<(), Fail> {
+    // The head is over with the first event.
+    assert!(rt; is_bad(&rt, b"open 1 w\nlimit bytes 9\n", b"script line 3\n")?);
+    assert!(rt; is_bad(&rt, b"open 1 w\nsecret r k\n", b"script line 3\n")?);
+    assert!(rt; is_bad(&rt, b"open 1 w\ntable x\n", b"script line 3\n")?);
+    assert!(rt; is_bad(&rt, b"limit bytes 9\nlimit bytes 9\n", b"script line 3\n")?);
+    assert!(rt;
+        is_bad(
+            &rt,
+            b"secret r k\nsecret w k\nsecret r k\n",
+            b"script line 4\n"
+        )?
+    );
+    assert!(rt; is_bad(&rt, b"limit bytes 0\n", b"script line 2\n")?);
+    Ok(())
+}
+
+/// Whether a table line of the script breaks the rule that is said.
+fn breaks(rt: &HostRuntime, with_table: bool, lines: &[u8], said: &[u8]) -> Result<bool, Fail> {
     let alloc = rt.alloc();
-    let cases: [(bool, &[u8], &[u8]); 4] = [
-        (
+    let script = script_of(alloc, with_table, lines)?;
+    let ran = run_script(alloc, &script, 7)?;
+    Ok(ran.status == 3 && ran.err.bytes() == said)
+}
+
+#[test]
+fn a_table_line_breaks_a_rule_at_a_token(rt: HostRuntime) -> Result<(), Fail> {
+    assert!(rt;
+        breaks(
+            &rt,
             false,
             b"table test t c id int not \x00\n",
-            b"schema line 1 noprimary 8\n",
-        ),
-        (
+            b"schema line 1 noprimary 8\n"
+        )?
+    );
+    assert!(rt;
+        breaks(
+            &rt,
             true,
             b"table test t c id int not \x00 i PRIMARY primary id\n",
-            b"schema line 2 duplicate 2\n",
-        ),
-        (true, b"table 9 u\n", b"schema line 2 badname 1\n"),
-        (
+            b"schema line 2 duplicate 2\n"
+        )?
+    );
+    assert!(rt; breaks(&rt, true, b"table 9 u\n", b"schema line 2 badname 1\n")?);
+    assert!(rt;
+        breaks(
+            &rt,
             true,
             b"limit bytes 9\ntable test u c id real\n",
-            b"schema line 3 badkind 5\n",
-        ),
-    ];
-    for (with_table, lines, said) in cases {
-        let script = script_of(alloc, with_table, lines)?;
-        let ran = run_script(alloc, &script, 7)?;
-        assert_eq!(rt; ran.status, 3);
-        assert!(rt; ran.err.bytes() == said);
-    }
+            b"schema line 3 badkind 5\n"
+        )?
+    );
     Ok(())
 }
 

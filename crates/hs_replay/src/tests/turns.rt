@@ -84,30 +84,28 @@ fn a_link_that_fails_closes_its_connection_and_no_other(rt: HostRuntime) -> Resu
     Ok(())
 }
 
+/// Whether a peer that says this and ends is answered so, and its connection closed.
+fn ends(rt: &HostRuntime, said: &'static [u8], sent: &'static [u8]) -> Result<bool, Fail> {
+    holds(
+        rt,
+        &[
+            Line(TABLE),
+            Line(b"open 1 w"),
+            Says(1, said),
+            Line(b"end 1"),
+            TURN,
+            Sent(1, sent),
+            Prints(b"closed 1 ended"),
+        ],
+    )
+}
+
 #[test]
 fn a_peer_that_ends_is_answered_first(rt: HostRuntime) -> Result<(), Fail> {
-    let cases: [(&'static [u8], &'static [u8]); 3] = [
-        (b"", b""),
-        // What isn't a whole line is let go.
-        (b"x\n1 = 1", b"1 1 cmd\n"),
-        (b"x\n", b"1 1 cmd\n"),
-    ];
-    for (said, sent) in cases {
-        assert!(rt;
-            holds(
-                &rt,
-                &[
-                    Line(TABLE),
-                    Line(b"open 1 w"),
-                    Says(1, said),
-                    Line(b"end 1"),
-                    TURN,
-                    Sent(1, sent),
-                    Prints(b"closed 1 ended"),
-                ]
-            )?
-        );
-    }
+    assert!(rt; ends(&rt, b"", b"")?);
+    // What isn't a whole line is let go.
+    assert!(rt; ends(&rt, b"x\n1 = 1", b"1 1 cmd\n")?);
+    assert!(rt; ends(&rt, b"x\n", b"1 1 cmd\n")?);
     Ok(())
 }
 
