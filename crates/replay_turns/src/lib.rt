@@ -18,8 +18,6 @@ mod schema_copies;
 mod sending;
 mod sessions;
 mod showing;
-#[cfg(test)]
-mod tests;
 
 pub use sessions::Session;
 pub use showing::table_at;
