@@ -33,8 +33,8 @@ fn push_cell_at(out: &mut Vec<u8>, values: &[Value], column: u32) -> Result<(), 
     }
 }
 
-/// Appends an HT and a cell.
-fn push_cell(out: &mut Vec<u8>, cell: &Value) -> Result<(), AllocError>
+/// Appends an HT and a cell's token, or a part of them where memory runs out.
+pub fn push_cell(out: &mut Vec<u8>, cell: &Value) -> Result<(), AllocError>
     ensures ok { OnOk result (out.new.items ≡ out.old.items ++ 9 ∷ token_spelled (cell_token cell.now)) }
     ensures err { OnErr result (Extends out.old.items out.new.items) }
 {

@@ -17,6 +17,7 @@ mod selection;
 mod tests;
 mod walking;
 
+pub use cells::push_cell;
 pub use laws::finds_of_examples;
 pub use replies::{Rendered, render};
 pub use selecting::select;

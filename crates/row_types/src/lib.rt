@@ -17,6 +17,7 @@ mod indexes;
 mod laws;
 mod lists;
 mod rows;
+mod schema_copies;
 mod tables;
 #[cfg(test)]
 mod tests;
@@ -28,5 +29,6 @@ pub use indexes::{IndexDef, IndexKind};
 pub use laws::{orders_are_total, orders_of_examples};
 pub use lists::List;
 pub use rows::{Row, RowKey, cmp_keys, cmp_prefix, copy_row, copy_value, row_size};
+pub use schema_copies::copy_schema;
 pub use tables::{Schema, TableDef};
 pub use values::{Value, cmp_values};

@@ -19,7 +19,6 @@ mod checks;
 mod dups;
 mod laws;
 mod one_table;
-mod schema_copies;
 mod slot_ref;
 mod tables;
 #[cfg(test)]

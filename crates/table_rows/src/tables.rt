@@ -20,14 +20,13 @@ use crate::bound::Bound;
 use crate::checks::{first_found, is_full, null_column};
 use crate::dups::dup_index;
 use crate::one_table::{OneTable, empty_tables};
-use crate::schema_copies::copy_schema;
 use crate::slot_ref::SlotRef;
 use crate::undo::Undo;
 use crate::undo_list::UndoList;
 use crate::verdict::Verdict;
 use crate::walk::Walk;
 use row_store::Edge;
-use row_types::{Row, RowKey, Schema, TableDef, Value, row_size};
+use row_types::{Row, RowKey, Schema, TableDef, Value, copy_schema, row_size};
 use std::alloc::{AllocError, Global};
 use std::marker::Model;
 

@@ -1,11 +1,16 @@
-//! A schema with memory of its own.
+//! Copies of a schema.
 ghost use Rattle.std.specs.Prelude.{◌≡◌, IfOk};
 
-use row_types::{ByteText, Column, IndexDef, List, Schema, TableDef, copy_value};
+use crate::byte_text::ByteText;
+use crate::columns::Column;
+use crate::indexes::IndexDef;
+use crate::lists::List;
+use crate::rows::copy_value;
+use crate::tables::{Schema, TableDef};
 use std::alloc::{AllocError, Global};
 
-/// An equal schema.
-pub(crate) fn copy_schema(alloc: Global, schema: &Schema) -> Result<Schema, AllocError>
+/// An equal schema with memory of its own.
+pub fn copy_schema(alloc: Global, schema: &Schema) -> Result<Schema, AllocError>
     ensures { IfOk result (λ copy. copy ≡ schema.now) }
 {
     let tables = schema.tables.as_slice();
