@@ -14,10 +14,11 @@ mod entries;
 mod lines;
 mod receiving;
 mod sayings;
-mod schema_copies;
 mod sending;
 mod sessions;
 mod showing;
+#[cfg(test)]
+mod tests;
 
 pub use sessions::Session;
 pub use showing::table_at;

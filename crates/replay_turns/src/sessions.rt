@@ -9,11 +9,10 @@ ghost use Rattle.replay_turns.specs.Shown.{table_at, rows_shown};
 
 use crate::connections::Connections;
 use crate::sayings::Saying;
-use crate::schema_copies::copy_schema;
 use crate::showing::{push_rows, table_at};
 use hs_outside::Port;
 use line_pipeline::Secrets;
-use row_types::Schema;
+use row_types::{Schema, copy_schema};
 use std::alloc::{AllocError, Global};
 use std::marker::Model;
 use table_rows::{Tables, UndoList};

@@ -1,10 +1,10 @@
 //! The rows of a table, a line each.
-ghost use Rattle.std.specs.Prelude.{◌≡◌, ◌<◌, ◌≤◌, ◌∷◌, ◌++◌, length, map, true, Some, OnOk, IfSome};
+ghost use Rattle.std.specs.Prelude.{◌≡◌, ◌<◌, ◌≤◌, ◌++◌, length, map, true, Some, OnOk, IfSome};
 ghost use Rattle.std.specs.List.{list_any};
 ghost use Rattle.row_types.specs.declared.indexes.IndexDef.{IndexDef};
 ghost use Rattle.row_types.specs.Valid.{IsValid, is_primary};
 ghost use Rattle.row_store.specs.Entries.{Entry};
-ghost use Rattle.hs_token.specs.Spelling.{token_spelled, behind_tabs};
+ghost use Rattle.hs_token.specs.Spelling.{behind_tabs};
 ghost use Rattle.table_rows.specs.Rows.{indexes_of};
 ghost use Rattle.table_rows.specs.Indexes.{primary_of, parts_at};
 ghost use Rattle.table_rows.specs.Valid.{IsValidState};
@@ -15,7 +15,7 @@ ghost use Rattle.replay_turns.specs.Shown.{table_at, row_line, rows_lines, rows_
 #[cfg(test)]
 mod tests;
 
-use hs_token::{push_integer, push_text};
+use find_scan::push_cell;
 use row_types::{IndexDef, IndexKind, Schema, Value};
 use std::alloc::AllocError;
 use table_rows::{Bound, Tables, Walk};
@@ -99,20 +99,7 @@ fn push_cells(cells: &[Value], text: &mut Vec<u8>) -> Result<(), AllocError>
         ≡ text.old.items ++ behind_tabs (map cell_token cells.now)) }
 {
     for cell in cells {
-        push_cell(cell, text)?;
+        push_cell(text, cell)?;
     }
     Ok(())
-}
-
-/// Appends an HT and a cell.
-fn push_cell(cell: &Value, text: &mut Vec<u8>) -> Result<(), AllocError>
-    ensures { OnOk result (text.new.items
-        ≡ text.old.items ++ 9 ∷ token_spelled (cell_token cell.now)) }
-{
-    text.push(b'\t')?;
-    match cell {
-        Value::Null => Ok(text.push(0)?),
-        Value::Int(number) => push_integer(text, *number),
-        Value::Text(bytes) => push_text(text, bytes.as_slice()),
-    }
 }
