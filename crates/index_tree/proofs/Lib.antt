@@ -1,12 +1,20 @@
 pub mod Apart
 pub mod Ascending
+mod Changed
 pub mod Cuts
 pub mod Elements
 pub mod Found
 pub mod InOrder
+mod Evened
+mod Joined
 pub mod Lookups
 pub mod Members
-mod Numbered
 pub mod Removed
+mod Searched
+mod Shaped
 pub mod Slots
+mod Places
+mod Rooms
+mod Spotted
 pub mod Through
+mod Walked

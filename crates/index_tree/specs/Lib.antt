@@ -1,3 +1,4 @@
+pub mod Chunked
 pub mod Contents
 pub mod Examples
 pub mod Ordered

@@ -1,5 +1,5 @@
 -- Lists that a test parts: what passes stands before what does not.
-use Rattle.std.specs.Prelude.{◌≡◌, ℕ, suc, Bool, true, false, not, List, [], ◌∷◌, ◌++◌, Option, Some, None, cond, filter, reverse}
+use Rattle.std.specs.Prelude.{◌≡◌, ℕ, suc, Bool, not, List, [], ◌∷◌, ◌++◌, Option, Some, None, cond, filter}
 use Rattle.std.specs.Option.{option_map}
 
 module _ {X : Type 0} (test : X → Bool) where
@@ -10,11 +10,6 @@ module _ {X : Type 0} (test : X → Bool) where
   -- those that pass, then the new one, then all others
   abbrev pub put_between : X → List X → List X
   put_between x xs = filter test xs ++ x ∷ filter (λ y. not (test y)) xs
-
--- a list in its order, or from its other end
-abbrev pub directed : {X : Type 0} → Bool → List X → List X
-directed false xs = xs
-directed true xs = reverse xs
 
 -- how many stand before the first that passes the test, where one passes
 abbrev pub first_place : {X : Type 0} → (X → Bool) → List X → Option ℕ

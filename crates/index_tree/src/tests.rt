@@ -273,3 +273,73 @@ fn an_item_taken_out_leaves_room_for_another(rt: HostRuntime) -> Result<(), Fail
     );
     Ok(())
 }
+
+// Takes a key out where it is there, and else adds it; and the same in a sorted list.
+fn turn(numbers: &mut Sorted<u64>, list: &mut Vec<u64>, key: u64) -> Result<(), AllocError> {
+    match list.binary_search(&key) {
+        Ok(at) => {
+            list.remove(at);
+            numbers.take(&front(key));
+        }
+        Err(at) => {
+            list.insert(at, key)?;
+            numbers.add(key)?;
+        }
+    }
+    Ok(())
+}
+
+// Turns keys below 3000, and hands back the seed for more.
+fn turn_many(
+    numbers: &mut Sorted<u64>,
+    list: &mut Vec<u64>,
+    seed: u64,
+    turns: u32,
+) -> Result<u64, AllocError> {
+    let mut seed = seed;
+    for _ in 0..turns {
+        seed = seed
+            .wrapping_mul(6_364_136_223_846_793_005)
+            .wrapping_add(1_442_695_040_888_963_407);
+        turn(numbers, list, (seed >> 33) % 3000)?;
+    }
+    Ok(seed)
+}
+
+// Takes out keys where they stand densest: each is in the middle of those that are left.
+fn take_many(numbers: &mut Sorted<u64>, list: &mut Vec<u64>, turns: u32) -> Result<(), AllocError> {
+    for _ in 0..turns {
+        let Some(key) = list.get(list.len() / 2) else {
+            return Ok(());
+        };
+        let key = *key;
+        turn(numbers, list, key)?;
+    }
+    Ok(())
+}
+
+// Whether the tree has the items of the list, seen from either end.
+fn is_list(alloc: Global, numbers: &Sorted<u64>, list: &[u64]) -> Result<bool, AllocError> {
+    let up = numbers.walk_up(alloc, 9999)?;
+    let mut down = numbers.walk_down(alloc, 9999)?;
+    down.reverse();
+    Ok(numbers.tree.len() == list.len() && up.as_slice() == list && down.as_slice() == list)
+}
+
+#[test]
+fn many_items_come_and_go_in_any_order(rt: HostRuntime) -> Result<(), Fail> {
+    let mut numbers = Sorted::new(rt.alloc());
+    let mut list = Vec::new(rt.alloc());
+    let mut seed = 2026;
+    for turns in [1, 300, 1500, 1200] {
+        seed = turn_many(&mut numbers, &mut list, seed, turns)?;
+        assert!(rt; is_list(rt.alloc(), &numbers, list.as_slice())?);
+        take_many(&mut numbers, &mut list, turns / 2)?;
+        assert!(rt; is_list(rt.alloc(), &numbers, list.as_slice())?);
+    }
+    take_many(&mut numbers, &mut list, 9999)?;
+    assert_eq!(rt; numbers.tree.len(), 0);
+    assert!(rt; numbers.add(7)?);
+    assert_eq!(rt; numbers.first_down(&behind(9)), Some(7));
+    Ok(())
+}

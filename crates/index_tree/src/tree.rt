@@ -1,9 +1,21 @@
-//! A tree of items, as a vector of them in the order in which the inserts placed them. A look-up halves the vector; an
-//! insert and a removal move the items behind.
-ghost use Rattle.std.specs.Prelude.{◌≡◌, ℕ, ◌+◌, ◌<◌, ◌≤◌, [], length, OnOk, OnErr, IsOk, IfSome, remove, not, count_by, nat_lt, if◌then◌else◌, slice_get, filter, reverse};
+//! A tree of items, as chunks of them in the order in which the inserts placed them. A look-up halves the list of
+//! chunks and then one chunk; an insert and a removal move the items of one chunk, and seldom those of its neighbour.
+//!
+//! 1. `chunks` are in use, none has more than 512 items, and where there are two each has 256.
+//! 2. `pool` are empty, so that an insert takes its new chunk from there.
+//! 3. There are not more items than 256 for each chunk of the two lists. So where a chunk is full the pool has one.
+//! 4. Either list has room for all chunks, so that none has to grow when a chunk goes from one to the other.
+ghost use Rattle.std.specs.Prelude.{◌≡◌, ℕ, ◌+◌, ◌*◌, ◌-◌, ◌<◌, ◌≤◌, [], length, OnOk, OnErr, IsOk, IfSome, remove, not, slice_get, filter, reverse, vec_len, vec_capacity};
+ghost use Rattle.std.specs.List.{insert};
 ghost use Rattle.index_tree.specs.Contents.{IsAt, IsInside, Finds, one_after, one_before};
 ghost use Rattle.index_tree.specs.Parts.{IsParted, put_between, first_place, last_place};
+ghost use Rattle.index_tree.specs.Chunked.{joined, chunk_at, start, held, IsTree, IsShaped, IsSpent, IsCutAt};
 
+use crate::chunk::{Chunk, HALF};
+use crate::chunks::{find, make_room};
+use crate::pool::add_spare;
+use crate::shifts::settle;
+use crate::spot::Spot;
 use crate::{Cut, Place, Walk};
 use std::alloc::{AllocError, Global};
 use std::marker::Model;
@@ -11,23 +23,24 @@ use std::marker::Model;
 /// Items, and room for more.
 #[derive(Drop)]
 pub struct Tree<T> {
-    items: Vec<T>,
+    chunks: Vec<Chunk<T>>,
+    pool: Vec<Chunk<T>>,
+    count: usize,
 }
 
 impl<T> Model for Tree<T> {
-    ghost use Rattle.std.specs.Prelude.{◌-◌, length, vec_len, vec_capacity};
+    ghost use Rattle.std.specs.Prelude.{vec_capacity};
     ghost use Rattle.index_tree.specs.Contents.{Contents, contents_code};
-    ghost use Rattle.std.specs.List.{range_with_len};
+    ghost use Rattle.index_tree.specs.Chunked.{held, IsTree};
 
     ghost Value = { Contents T };
 
     ghost coded = { contents_code T.code };
 
-    ghost view = { λ tree. record {
-      items = tree.items.items;
-      places = range_with_len 0 (length tree.items.items);
-      spare = vec_capacity tree.items - vec_len tree.items;
-    } };
+    ghost view = { λ tree. held tree.chunks.items tree.pool.items };
+
+    ghost invariant = { λ tree. IsTree tree.chunks.items tree.pool.items tree.count
+        (vec_capacity tree.chunks) (vec_capacity tree.pool) };
 }
 
 impl<T: Copy> Tree<T> {
@@ -37,7 +50,9 @@ impl<T: Copy> Tree<T> {
         ensures spare { result.spare ≡ 0 }
     {
         Tree {
-            items: Vec::new(alloc),
+            chunks: Vec::new(alloc),
+            pool: Vec::new(alloc),
+            count: 0,
         }
     }
 
@@ -51,7 +66,16 @@ impl<T: Copy> Tree<T> {
         ensures at_hand { n ≤ self.old.spare → IsOk result }
         ensures refused { OnErr result (self.new ≡ self.old) }
     {
-        self.items.reserve(n as usize)
+        let spare = HALF * (self.chunks.len() + self.pool.len()) - self.count;
+        let wanted = n as usize;
+        if wanted <= spare {
+            return Ok(());
+        }
+        add_spare(
+            &mut self.chunks,
+            &mut self.pool,
+            (wanted - spare).div_ceil(HALF),
+        )
     }
 
     /// Puts an item at the cut. It takes no memory.
@@ -61,11 +85,10 @@ impl<T: Copy> Tree<T> {
         ensures items { self.new.items ≡ put_between (C.before cut.now) item self.old.items }
         ensures spare { self.new.spare + 1 ≡ self.old.spare }
     {
-        let at = self.count_before(cut);
-        match self.items.insert(at, item) {
-            Ok(()) => {}
-            Err(_) => unreachable!(),
-        }
+        let spot = find(self.chunks.as_slice(), cut);
+        let free = make_room(&mut self.chunks, &mut self.pool, spot);
+        self.chunks[free.chunk].insert(free.offset, item);
+        self.count += 1;
     }
 
     /// Takes out the item at a place and hands it back. It takes no memory.
@@ -77,14 +100,18 @@ impl<T: Copy> Tree<T> {
             self.new.items ≡ remove self.old.items before }
         ensures spare { self.new.spare ≡ self.old.spare + 1 }
     {
-        self.items.remove(place.number())
+        let spot = Spot::of(place);
+        let item = self.chunks[spot.chunk].remove(spot.offset);
+        settle(&mut self.chunks, &mut self.pool, spot.chunk);
+        self.count -= 1;
+        item
     }
 
     /// How many items there are.
     pub fn len(&self) -> usize
         ensures { result ≡ length self.now.items }
     {
-        self.items.len()
+        self.count
     }
 
     /// The first item behind the cut.
@@ -94,7 +121,8 @@ impl<T: Copy> Tree<T> {
             (first_place (λ item. not (C.before cut.now item)) self.now.items) result }
         ensures inside { IfSome result (IsInside self.now) }
     {
-        self.place_of(self.count_before(cut))
+        let spot = find(self.chunks.as_slice(), cut);
+        spot.first_from(self.chunks.as_slice())
     }
 
     /// The last item before the cut.
@@ -103,11 +131,8 @@ impl<T: Copy> Tree<T> {
         ensures last { Finds self.now (last_place (C.before cut.now) self.now.items) result }
         ensures inside { IfSome result (IsInside self.now) }
     {
-        let before = self.count_before(cut);
-        if before == 0 {
-            return None;
-        }
-        self.place_of(before - 1)
+        let spot = find(self.chunks.as_slice(), cut);
+        spot.last_until(self.chunks.as_slice())
     }
 
     /// The item behind a place.
@@ -117,11 +142,8 @@ impl<T: Copy> Tree<T> {
             Finds self.now (one_after (length self.now.items) before) result }
         ensures inside { IfSome result (IsInside self.now) }
     {
-        if place.number() < self.items.len() - 1 {
-            Some(Place::of(place.number() + 1))
-        } else {
-            None
-        }
+        let spot = Spot::of(place).behind();
+        spot.first_from(self.chunks.as_slice())
     }
 
     /// The item in front of a place.
@@ -131,13 +153,7 @@ impl<T: Copy> Tree<T> {
             Finds self.now (one_before before) result }
         ensures inside { IfSome result (IsInside self.now) }
     {
-        // A proof knows how places are numbered where it has seen the items.
-        let _ = &self.items;
-        if place.number() == 0 {
-            None
-        } else {
-            Some(Place::of(place.number() - 1))
-        }
+        Spot::of(place).last_until(self.chunks.as_slice())
     }
 
     /// The items behind the cut, the first one next.
@@ -145,7 +161,8 @@ impl<T: Copy> Tree<T> {
         requires parted { IsParted (C.before cut.now) self.now.items }
         ensures { result ≡ filter (λ item. not (C.before cut.now item)) self.now.items }
     {
-        Walk::up(&self.items.as_slice()[self.count_before(cut)..])
+        let spot = find(self.chunks.as_slice(), cut);
+        Walk::up(self.chunks.as_slice(), spot)
     }
 
     /// The items before the cut, the last one next.
@@ -153,7 +170,8 @@ impl<T: Copy> Tree<T> {
         requires parted { IsParted (C.before cut.now) self.now.items }
         ensures { result ≡ reverse (filter (C.before cut.now) self.now.items) }
     {
-        Walk::down(&self.items.as_slice()[..self.count_before(cut)])
+        let spot = find(self.chunks.as_slice(), cut);
+        Walk::down(self.chunks.as_slice(), spot)
     }
 
     /// The item at a place.
@@ -162,29 +180,7 @@ impl<T: Copy> Tree<T> {
         ensures { (before : ℕ) → IsAt self.now place before →
             slice_get self.now.items before ≡ Some result }
     {
-        self.items[place.number()]
-    }
-
-    // How many items stand before the cut.
-    fn count_before<C: Cut<T>>(&self, cut: &C) -> usize
-        requires { IsParted (C.before cut.now) self.now.items }
-        ensures { result ≡ count_by (C.before cut.now) self.now.items }
-    {
-        self.items.as_slice().partition_point(
-            |item: &T| -> bool
-                ensures { result ≡ C.before cut.entry.now item.now }
-            { cut.is_before(item) },
-        )
-    }
-
-    // The place behind so many items, where one stands there.
-    fn place_of(&self, before: usize) -> Option<Place>
-        ensures { Finds self.now (if nat_lt before (length self.now.items) then Some before else None) result }
-    {
-        if before < self.items.len() {
-            Some(Place::of(before))
-        } else {
-            None
-        }
+        let spot = Spot::of(place);
+        self.chunks[spot.chunk].as_slice()[spot.offset]
     }
 }

@@ -1,12 +1,13 @@
-use Rattle.std.proofs.Common.{◌≡◌, ◌∙◌, List, drop, sym, ap}
-use Rattle.std.proofs.lemmas.List.{take_rest}
-use Rattle.index_tree.proofs.Cuts.{rest_behind}
+use Rattle.std.proofs.Common.{◌∙◌}
+use Rattle.index_tree.proofs.Searched.{walked_up}
 use Rattle.index_tree.proofs.tree.Tree.up.Goals as goal
 
 pub returns : goal.returns
 returns g c =
+    let test = g.C.Cut.before c.args.cut.now in
+    let chunks = c.self.inside.chunks.items in
+    let pool = c.self.inside.pool.items in
     let parted = rw (← c.self.view_is) at c.requires.parted in
-    let counted = rw (← c.self.view_is) at c.count_before.ensures in
-    let behind = rest_behind (g.C.Cut.before c.args.cut.now) _ parted _ counted in
-    let rest = c.up.ensures ∙ (take_rest c.as_slice.result.now c.count_before.result ∙ ap (λ (xs : List g.row.T.Denot). drop c.count_before.result xs) c.as_slice.ensures.value) in
-    rw (← c.self.view_is) (rest ∙ sym behind)
+    let cut = rw c.as_slice.ensures.value at c.find-spot.ensures in
+    let walked = rw c.as_slice-2.ensures.value at c.up.ensures in
+    rw (← c.self.view_is) (walked ∙ walked_up chunks pool test parted _ _ cut)

@@ -1,7 +1,7 @@
 use Rattle.std.proofs.Common.{rules, of_calls}
 use Rattle.std.proofs.lemmas.Fn.{always_returns_same}
 use Rattle.index_tree.proofs.Cuts.{partitioned, count_in_slice}
-use Rattle.index_tree.proofs.tree.Tree.count_before.Goals as goal
+use Rattle.index_tree.proofs.chunk.Chunk.count_before.Goals as goal
 
 pub returns : goal.returns
 returns g c =

@@ -1,0 +1,9 @@
+use Rattle.std.proofs.Common.{arith}
+use Rattle.index_tree.proofs.Evened.{merged}
+use Rattle.index_tree.proofs.shifts.merge.Goals as goal
+
+pub returns-clause-items : goal.returns-clause-items
+returns-clause-items g c = (merged c.args.chunks.now.items _ c.args.left _ _ _ (omega arith) c.requires.fits c.requires.others c.requires.half c.requires.both c.remove-emptied.ensures.value c.remove-emptied.ensures.items c.index_mut.ensures.value c.append.ensures.items).items
+
+pub returns-clause-shaped : goal.returns-clause-shaped
+returns-clause-shaped g c = (merged c.args.chunks.now.items _ c.args.left _ _ _ (omega arith) c.requires.fits c.requires.others c.requires.half c.requires.both c.remove-emptied.ensures.value c.remove-emptied.ensures.items c.index_mut.ensures.value c.append.ensures.items).shaped
