@@ -13,10 +13,13 @@ use Rattle.index_tree.proofs.Ascending.{ascending_parted}
 use Rattle.index_tree.proofs.Elements.{all_weaker}
 use Rattle.row_store.specs.Entries.{Slots, Entry, row_at, cells, entry_cmp, walk}
 use Rattle.row_store.specs.Walks.{is_like, first_like, slot_in, IsKeyed}
-use Rattle.row_store.specs.Inside.{stands, is_ahead, is_ahead_of, is_past, is_same, slots_in}
+use Rattle.row_store.specs.declared.mark.Mark.{Mark}
+use Rattle.row_store.specs.Cuts.{is_before, line_at}
+use Rattle.row_store.specs.Inside.{stands, is_ahead_of, is_past, is_same}
+use Rattle.row_store.specs.Marks.{marks_in, slot_marked}
 use Rattle.row_store.proofs.CellOrder.{cut_closed, prefix_of_all, prefix_of_whole}
 use Rattle.row_store.proofs.KeptRows.{IsRowOf}
-use Rattle.row_store.proofs.SlotLists.{ahead_agrees, opposites_agree, found_slot, parted_slots}
+use Rattle.row_store.proofs.MarkLists.{Agree, ahead_agrees, opposites_agree, found_mark, parted_marks}
 use Rattle.row_store.proofs.WalkChanges.{walk_ascends, walk_rows}
 
 module _ (own key : List ℕ) (row : List Value) where
@@ -28,9 +31,13 @@ module _ (own key : List ℕ) (row : List Value) where
   own_closed through x y less before =
       sym (same_cut through x) ∙ cut_closed (own ++ key) (cells own row) through x y less (same_cut through y ∙ before)
 
-  pub own_parted : (slots : Slots) → IsKeyed (own ++ key) slots → IsParted (is_ahead slots own (cells own row) false) (slots_in (walk (own ++ key) slots))
+  -- so the digests of the whole columns' cells serve it too
+  own_agrees : (slots : Slots) → Agree (own ++ key) (is_ahead_of own (cells own row) false) (is_before (line_at slots own (cells own row) false)) (walk (own ++ key) slots)
+  own_agrees slots = ahead_agrees slots (own ++ key) own (cells own row) false (same_cut false) (walk (own ++ key) slots) (walk_rows (own ++ key) slots)
+
+  pub own_parted : (slots : Slots) → IsKeyed (own ++ key) slots → IsParted (is_before (line_at slots own (cells own row) false)) (marks_in (own ++ key) (walk (own ++ key) slots))
   own_parted slots keyed =
-      parted_slots (is_ahead_of own (cells own row) false) (is_ahead slots own (cells own row) false) (walk (own ++ key) slots) (ahead_agrees slots own (cells own row) false (walk (own ++ key) slots) (walk_rows (own ++ key) slots))
+      parted_marks (own ++ key) (is_ahead_of own (cells own row) false) (is_before (line_at slots own (cells own row) false)) (walk (own ++ key) slots) (own_agrees slots)
       (ascending_parted (entry_cmp (own ++ key)) (is_ahead_of own (cells own row) false) (own_closed false) (walk (own ++ key) slots) (walk_ascends (own ++ key) slots keyed))
 
   -- an entry that was found first, if it has the row's cells
@@ -89,10 +96,11 @@ module _ (own key : List ℕ) (row : List Value) where
       by_test rest true = here
       by_test rest false = rest
 
-  -- so the first slot that is not before the row's cells tells all
-  pub like_slot : (slots : Slots) (found : Option ℕ) → IsKeyed (own ++ key) slots → found ≡ find (λ (s : ℕ). not (is_ahead slots own (cells own row) false s)) (slots_in (walk (own ++ key) slots)) → slot_in (first_like own row (walk (own ++ key) slots)) ≡ if_same slots found
+  -- so the first mark that is not before the row's cells tells all
+  pub like_slot : (slots : Slots) (found : Option ℕ) → IsKeyed (own ++ key) slots → found ≡ slot_marked (find (λ (m : Mark). not (is_before (line_at slots own (cells own row) false) m)) (marks_in (own ++ key) (walk (own ++ key) slots))) → slot_in (first_like own row (walk (own ++ key) slots)) ≡ if_same slots found
   like_slot slots found keyed is =
       let rows = walk_rows (own ++ key) slots in
-      let past = found_slot (is_past own (cells own row) false) (λ (s : ℕ). not (is_ahead slots own (cells own row) false s)) (walk (own ++ key) slots)
-      (opposites_agree (is_ahead_of own (cells own row) false) (is_ahead slots own (cells own row) false) (walk (own ++ key) slots) (ahead_agrees slots own (cells own row) false (walk (own ++ key) slots) rows)) in
+      let told = is_before (line_at slots own (cells own row) false) in
+      let past = found_mark (own ++ key) (is_past own (cells own row) false) (λ (m : Mark). not (told m)) (walk (own ++ key) slots)
+      (opposites_agree (own ++ key) (is_ahead_of own (cells own row) false) told (walk (own ++ key) slots) (own_agrees slots)) in
       ap slot_in (like_found (walk (own ++ key) slots) (walk_ascends (own ++ key) slots keyed)) ∙ if_like_same slots (walk (own ++ key) slots) (is_past own (cells own row) false) rows ∙ ap (if_same slots) (sym (is ∙ past))

@@ -11,7 +11,8 @@ use Rattle.row_store.specs.declared.store.RowStore.TheInside.{Inside}
 use Rattle.row_store.specs.Contents.{with_slot}
 use Rattle.row_store.specs.Entries.{Slots, Entry, entry_cmp}
 use Rattle.row_store.specs.Walks.{IsNew, IsKeyed}
-use Rattle.row_store.specs.Inside.{columns_in, GoesBy, IsFresh, IsOrder, HasRoom, AreVacant, IsStore, orders_in, slots_in, contents}
+use Rattle.row_store.specs.Inside.{columns_in, GoesBy, IsFresh, IsOrder, HasRoom, AreVacant, IsStore, orders_in, contents}
+use Rattle.row_store.specs.Marks.{marks_in}
 use Rattle.row_store.proofs.CellOrder.{new_at_more}
 use Rattle.row_store.proofs.KeptRows.{kept_with_vacant}
 use Rattle.row_store.proofs.WalkChanges.{walk_with_vacant}
@@ -71,7 +72,7 @@ orders_longer rows more [] each room = tt
 orders_longer rows more (order ∷ orders) each room = (
   record {
     apart = subst (AreApart (entry_cmp order.whole.items)) (sym (kept_with_vacant rows more)) each.0.apart;
-    walked = each.0.walked ∙ ap slots_in (sym (walk_with_vacant order.whole.items rows more));
+    walked = each.0.walked ∙ ap (marks_in order.whole.items) (sym (walk_with_vacant order.whole.items rows more));
     room = omega (arith, room.0, length-append rows (replicate more None), length-replicate {A = Option (List Value)} more None);
   },
   orders_longer rows more orders each.1 room.1,

@@ -2,18 +2,23 @@
 --     up_slots, down_slots      the slots are those of the entries behind the cut, or before it
 --     up_entries, down_entries      with their rows they are these entries
 --     live_slots      each has a row
-use Rattle.std.proofs.Common.{◌≡◌, ℕ, Bool, true, false, not, List, [], ◌∷◌, map, filter, reverse, Option, Some, None, is_some, IsSome, sym, refl, ap, subst, ◌∙◌}
+use Rattle.std.proofs.Common.{◌≡◌, ℕ, Bool, true, false, not, List, [], ◌∷◌, filter, reverse, Option, is_some, sym, refl, ap, subst, ◌∙◌}
 use Rattle.std.specs.List.{AllByRecursion}
 use Rattle.std.specs.Ordering.{is_gt}
 use Rattle.row_types.specs.declared.values.Value.{Value}
 use Rattle.row_types.specs.Order.{prefix_cmp}
-use Rattle.index_tree.proofs.Elements.{all_kept, all_weaker, filter_agree}
-use Rattle.row_store.specs.Entries.{Slots, Entry, row_at, IsLive, cells, walk}
+use Rattle.index_tree.proofs.Elements.{all_kept, filter_agree}
+use Rattle.row_store.specs.Entries.{Slots, Entry, IsLive, cells, walk}
 use Rattle.row_store.specs.Walks.{is_from, is_to}
 use Rattle.row_store.specs.Walked.{low_edge, high_edge, upward, downward, row_or_empty, entry_under, entries_under}
-use Rattle.row_store.specs.Inside.{is_ahead, is_ahead_of, is_past, slots_in}
+use Rattle.row_store.specs.declared.mark.Mark.{Mark}
+use Rattle.row_store.specs.Cuts.{is_before, line_at}
+use Rattle.row_store.specs.Inside.{is_ahead_of, is_past, slots_in}
+use Rattle.row_store.specs.Marks.{marks_in, slots_of}
 use Rattle.row_store.proofs.KeptRows.{IsRowOf}
-use Rattle.row_store.proofs.SlotLists.{kept_slots, opposites_agree, ahead_agrees, slots_reversed, all_reversed}
+use Rattle.row_store.proofs.MarkLists.{kept_marks, opposites_agree, slots_marked, marks_reversed}
+use Rattle.row_store.proofs.OrderSteps.{cut_agrees}
+use Rattle.row_store.proofs.SlotLists.{all_reversed}
 use Rattle.row_store.proofs.WalkChanges.{walk_rows}
 
 -- entries are read again under their slots
@@ -66,22 +71,24 @@ module _ (columns : List ℕ) (slots : Slots) (key : List Value) (through : Bool
   pub before_rows : AllByRecursion (IsRowOf slots) before_cut
   before_rows = all_reversed (IsRowOf slots) (filter (is_ahead_of columns key through) (walk columns slots)) (all_kept (IsRowOf slots) (is_ahead_of columns key through) (walk columns slots) (walk_rows columns slots))
 
-  pub up_slots : (items up : List ℕ) → items ≡ slots_in (walk columns slots) → up ≡ filter (λ (s : ℕ). not (is_ahead slots columns key through s)) items → up ≡ slots_in behind_cut
+  pub up_slots : (items up : List Mark) → items ≡ marks_in columns (walk columns slots) → up ≡ filter (λ (m : Mark). not (is_before (line_at slots columns key through) m)) items → slots_of up ≡ slots_in behind_cut
   up_slots items up walked is =
-      let agree = ahead_agrees slots columns key through (walk columns slots) (walk_rows columns slots) in
-      let told = is_ahead slots columns key through in
-      is
-      ∙ ap (filter (λ (s : ℕ). not (told s))) walked
-      ∙ kept_slots (is_past columns key through) (λ (s : ℕ). not (told s)) (walk columns slots) (opposites_agree (is_ahead_of columns key through) told (walk columns slots) agree)
+      let agree = cut_agrees columns slots key through (walk columns slots) (walk_rows columns slots) in
+      let told = is_before (line_at slots columns key through) in
+      ap slots_of (is
+      ∙ ap (filter (λ (m : Mark). not (told m))) walked
+      ∙ kept_marks columns (is_past columns key through) (λ (m : Mark). not (told m)) (walk columns slots) (opposites_agree columns (is_ahead_of columns key through) told (walk columns slots) agree))
+      ∙ slots_marked columns behind_cut
 
-  pub down_slots : (items down : List ℕ) → items ≡ slots_in (walk columns slots) → down ≡ reverse (filter (is_ahead slots columns key through) items) → down ≡ slots_in before_cut
+  pub down_slots : (items down : List Mark) → items ≡ marks_in columns (walk columns slots) → down ≡ reverse (filter (is_before (line_at slots columns key through)) items) → slots_of down ≡ slots_in before_cut
   down_slots items down walked is =
-      let agree = ahead_agrees slots columns key through (walk columns slots) (walk_rows columns slots) in
-      let told = is_ahead slots columns key through in
-      is
-      ∙ ap (λ (xs : List ℕ). reverse (filter told xs)) walked
-      ∙ ap (λ (xs : List ℕ). reverse xs) (kept_slots (is_ahead_of columns key through) told (walk columns slots) agree)
-      ∙ sym (slots_reversed (filter (is_ahead_of columns key through) (walk columns slots)))
+      let agree = cut_agrees columns slots key through (walk columns slots) (walk_rows columns slots) in
+      let told = is_before (line_at slots columns key through) in
+      ap slots_of (is
+      ∙ ap (λ (ms : List Mark). reverse (filter told ms)) walked
+      ∙ ap (λ (ms : List Mark). reverse ms) (kept_marks columns (is_ahead_of columns key through) told (walk columns slots) agree)
+      ∙ sym (marks_reversed columns (filter (is_ahead_of columns key through) (walk columns slots))))
+      ∙ slots_marked columns before_cut
 
   pub up_entries : (up : List ℕ) → up ≡ slots_in behind_cut → entries_under slots up ≡ upward columns key through (walk columns slots)
   up_entries up same =

@@ -10,6 +10,8 @@ use Rattle.row_store.specs.declared.orders.RowOrder.{RowOrder}
 use Rattle.row_store.specs.declared.store.RowStore.TheInside.{Inside}
 use Rattle.row_store.specs.Entries.{Slots, Entry, vacancies, cells, row_at, walk}
 use Rattle.row_store.specs.Walks.{IsKeyed, IsNew}
+use Rattle.row_store.specs.declared.mark.Mark.{Mark}
+use Rattle.row_store.specs.Marks.{marks_in, slot_marked}
 use Rattle.row_store.specs.Contents.{Contents}
 use Rattle.index_tree.specs.Contents.{IsAt}
 use Rattle.index_tree.specs.Contents.{Contents as Items}
@@ -35,10 +37,10 @@ is_ahead slots columns values through slot =
 abbrev pub slots_in : List Entry → List ℕ
 slots_in entries = map (λ (entry : Entry). entry.1) entries
 
--- A tree has the slots of all rows in the order of its columns, which no two rows share, and room for the vacant slots.
+-- A tree has the marks of all rows in the order of its columns, which no two rows share, and room for the vacant slots.
 pub record IsOrder (slots : Slots) (order : RowOrder) : Type 0 where
   pub apart : IsKeyed order.whole.items slots
-  pub walked : order.tree.items ≡ slots_in (walk order.whole.items slots)
+  pub walked : order.tree.items ≡ marks_in order.whole.items (walk order.whole.items slots)
   pub room : length slots ≤ length order.tree.items + order.tree.spare
 
 -- There is room in the order for so many rows.
@@ -92,9 +94,9 @@ orders_in orders = map (λ (order : RowOrder). order.own.items) orders
 abbrev pub contents : Inside → Contents
 contents store = record { key = store.key.items; orders = orders_in store.orders.items; slots = store.rows.items }
 
--- The place is that of this slot.
-abbrev pub HasAt : Items ℕ → ℕ → ℕ → Type 0
-HasAt tree place slot = (before : ℕ) × IsAt tree place before × (slice_get tree.items before ≡ Some slot)
+-- The place is that of this slot's mark.
+abbrev pub HasAt : Items Mark → ℕ → ℕ → Type 0
+HasAt tree place slot = (before : ℕ) × IsAt tree place before × (slot_marked (slice_get tree.items before) ≡ Some slot)
 
 -- Whether there is a row, with the cells of this one.
 abbrev pub is_same : List ℕ → List Value → Option (List Value) → Bool

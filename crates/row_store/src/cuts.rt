@@ -1,48 +1,97 @@
 //! Where a row or a key comes to stand between the rows of an order.
 ghost use Rattle.std.specs.Prelude.{◌≡◌, false, option_copied};
+ghost use Rattle.row_store.specs.Cuts.{line_at, row_line, key_line, is_before};
 ghost use Rattle.row_store.specs.Entries.{row_at, cells};
-ghost use Rattle.row_store.specs.Inside.{stands, is_ahead, is_same};
+ghost use Rattle.row_store.specs.Inside.{stands, is_same};
 
 use crate::cells::{cmp_rows, cmp_with_key};
+use crate::digest::{digest_of_key, digest_of_row};
+use crate::mark::Mark;
 use index_tree::Cut;
 use row_types::{Row, Value};
 use std::cmp::Ordering;
 
-/// In front of all that has the cells of a row at these columns.
+/// In front of all that has the cells of a row at these columns. The digest is that of the first
+/// of them.
 #[derive(Clone, Copy)]
 pub(crate) struct RowCut<'a> {
-    pub(crate) rows: &'a [Option<Row>],
-    pub(crate) columns: &'a [u32],
-    pub(crate) row: &'a Row,
+    rows: &'a [Option<Row>],
+    columns: &'a [u32],
+    row: &'a Row,
+    pub(crate) digest: u64,
 }
 
-impl Cut<u32> for RowCut<'_> {
-    ghost before = { λ cut slot. is_ahead cut.rows.now cut.columns.now (cells cut.columns.now cut.row.now) false slot };
-
-    fn is_before(&self, slot: &u32) -> bool {
-        match row_in(self.rows, *slot) {
-            None => false,
-            Some(row) => cmp_rows(row, self.row, self.columns).is_lt(),
+impl<'a> RowCut<'a> {
+    pub(crate) fn of(rows: &'a [Option<Row>], columns: &'a [u32], row: &'a Row) -> RowCut<'a>
+        ensures { row_line result ≡ line_at rows.now columns.now (cells columns.now row.now) false }
+    {
+        let digest = digest_of_row(row, columns);
+        RowCut {
+            rows,
+            columns,
+            row,
+            digest,
         }
     }
 }
 
-/// In front of all that has the cells of a key, or, `through` them, behind it.
-#[derive(Clone, Copy)]
-pub(crate) struct KeyCut<'a> {
-    pub(crate) rows: &'a [Option<Row>],
-    pub(crate) columns: &'a [u32],
-    pub(crate) key: &'a [Value],
-    pub(crate) through: bool,
+impl Cut<Mark> for RowCut<'_> {
+    ghost before = { λ cut mark. is_before (row_line cut) mark };
+
+    fn is_before(&self, mark: &Mark) -> bool {
+        match mark.digest().cmp(&self.digest) {
+            Ordering::Less => true,
+            Ordering::Equal => match row_in(self.rows, mark.slot) {
+                None => false,
+                Some(row) => cmp_rows(row, self.row, self.columns).is_lt(),
+            },
+            Ordering::Greater => false,
+        }
+    }
 }
 
-impl Cut<u32> for KeyCut<'_> {
-    ghost before = { λ cut slot. is_ahead cut.rows.now cut.columns.now cut.key.now cut.through slot };
+/// In front of all that has the cells of a key, or, `through` them, behind it. The digest is that
+/// of the first of them.
+#[derive(Clone, Copy)]
+pub(crate) struct KeyCut<'a> {
+    rows: &'a [Option<Row>],
+    columns: &'a [u32],
+    key: &'a [Value],
+    through: bool,
+    digest: u64,
+}
 
-    fn is_before(&self, slot: &u32) -> bool {
-        match row_in(self.rows, *slot) {
-            None => false,
-            Some(row) => { stands(self.through, cmp_with_key(row, self.columns, self.key)) }
+impl<'a> KeyCut<'a> {
+    pub(crate) fn of(
+        rows: &'a [Option<Row>],
+        columns: &'a [u32],
+        key: &'a [Value],
+        through: bool,
+    ) -> KeyCut<'a>
+        ensures { key_line result ≡ line_at rows.now columns.now key.now through }
+    {
+        let digest = digest_of_key(key, through);
+        KeyCut {
+            rows,
+            columns,
+            key,
+            through,
+            digest,
+        }
+    }
+}
+
+impl Cut<Mark> for KeyCut<'_> {
+    ghost before = { λ cut mark. is_before (key_line cut) mark };
+
+    fn is_before(&self, mark: &Mark) -> bool {
+        match mark.digest().cmp(&self.digest) {
+            Ordering::Less => true,
+            Ordering::Equal => match row_in(self.rows, mark.slot) {
+                None => false,
+                Some(row) => { stands(self.through, cmp_with_key(row, self.columns, self.key)) }
+            },
+            Ordering::Greater => false,
         }
     }
 }

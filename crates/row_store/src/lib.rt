@@ -8,13 +8,16 @@
 //! `reserve` and `add_order` are the calls that take memory. Where a slot is vacant `put` can't be refused, and neither
 //! can `put_at`, `replace` and `take`, so that whatever was done can be undone. `up` and `down` walk an index from a key;
 //! `first_from`, `last_to` and `first_like` find where a walk begins, and `next` and `prev` go on from a slot, at a search a
-//! row. An index goes by its own cells and then by those of the primary key; no copy of a cell is kept beside the rows.
+//! row. An index goes by its own cells and then by those of the primary key. It holds a mark of 12 bytes a row: the slot, and
+//! a digest of the row's first cell in that order, so that a search looks at a row only where digests are equal.
 //! Which rows may stand beside each other, what is undone and which tables there are is left to `table_rows`.
 #![tactic(auto)]
 
 mod cells;
 mod cuts;
+mod digest;
 mod edge;
+mod mark;
 mod orders;
 mod room;
 mod rounds;

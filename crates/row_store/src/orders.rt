@@ -3,23 +3,25 @@ ghost use Rattle.std.specs.Prelude.{◌≡◌, ℕ, ◌+◌, ◌<◌, ◌≤◌,
 ghost use Rattle.index_tree.specs.Contents.{IsInside, Finds};
 ghost use Rattle.index_tree.specs.Parts.{IsParted};
 ghost use Rattle.row_store.specs.Entries.{IsLive, kept, walk};
+ghost use Rattle.row_store.specs.Marks.{slot_marked};
 ghost use Rattle.row_store.specs.Walks.{IsNew, first_from, last_to, first_like, behind, in_front, slot_in};
 ghost use Rattle.row_store.specs.Walked.{upward, downward};
 ghost use Rattle.row_store.specs.Inside.{IsOrder, BeginsWithOwn, HasRoom, HasAt, columns_in, is_ahead_of, is_past};
 
 use crate::cuts::{KeyCut, RowCut, is_same, row_in};
 use crate::edge::Edge;
+use crate::mark::Mark;
 use crate::walks::Walk;
 use index_tree::{Cut, Place, Tree};
 use row_types::{Row, RowKey, Value};
 use std::alloc::{AllocError, Global};
 
-/// The columns of an index, the columns that its walk goes by, and the slots of all rows in that order.
+/// The columns of an index, the columns that its walk goes by, and the marks of all rows in that order.
 #[derive(Drop)]
 pub(crate) struct RowOrder {
     own: Vec<u32>,
     whole: Vec<u32>,
-    tree: Tree<u32>,
+    tree: Tree<Mark>,
 }
 
 impl RowOrder {
@@ -63,12 +65,8 @@ impl RowOrder {
         ensures order { IsOrder (set rows.now slot (Some row.now)) self.new }
         ensures columns { columns_in self.new ≡ columns_in self.old }
     {
-        let cut = RowCut {
-            rows,
-            columns: self.whole.as_slice(),
-            row,
-        };
-        self.tree.insert(&cut, slot);
+        let cut = RowCut::of(rows, self.whole.as_slice(), row);
+        self.tree.insert(&cut, Mark::of(cut.digest, slot));
     }
 
     /// Lets the row in a slot go.
@@ -131,7 +129,7 @@ impl RowOrder {
             (first_like self.now.own.items row.now (walk self.now.whole.items rows.now)) }
     {
         let columns = self.own.as_slice();
-        let slot = self.first_behind(&RowCut { rows, columns, row })?;
+        let slot = self.first_behind(&RowCut::of(rows, columns, row))?;
         if is_same(rows, slot, columns, row) {
             Some(slot)
         } else {
@@ -168,16 +166,10 @@ impl RowOrder {
         ensures { result
             ≡ upward self.now.whole.items key.now through (walk self.now.whole.items rows.now) }
     {
-        let columns = self.whole.as_slice();
-        let cut = KeyCut {
-            rows,
-            columns,
-            key,
-            through,
-        };
+        let cut = KeyCut::of(rows, self.whole.as_slice(), key, through);
         Walk {
             rows,
-            slots: self.tree.up(&cut),
+            marks: self.tree.up(&cut),
         }
     }
 
@@ -192,16 +184,10 @@ impl RowOrder {
         ensures { result
             ≡ downward self.now.whole.items key.now through (walk self.now.whole.items rows.now) }
     {
-        let columns = self.whole.as_slice();
-        let cut = KeyCut {
-            rows,
-            columns,
-            key,
-            through,
-        };
+        let cut = KeyCut::of(rows, self.whole.as_slice(), key, through);
         Walk {
             rows,
-            slots: self.tree.down(&cut),
+            marks: self.tree.down(&cut),
         }
     }
 
@@ -212,12 +198,7 @@ impl RowOrder {
             (find (is_past self.now.whole.items key.now through) (walk self.now.whole.items rows.now)) }
     {
         let columns = self.whole.as_slice();
-        self.first_behind(&KeyCut {
-            rows,
-            columns,
-            key,
-            through,
-        })
+        self.first_behind(&KeyCut::of(rows, columns, key, through))
     }
 
     // The slot of the last row that stands before a cut.
@@ -227,12 +208,7 @@ impl RowOrder {
             (reverse (walk self.now.whole.items rows.now))) }
     {
         let columns = self.whole.as_slice();
-        self.last_before(&KeyCut {
-            rows,
-            columns,
-            key,
-            through,
-        })
+        self.last_before(&KeyCut::of(rows, columns, key, through))
     }
 
     // Where the tree has a slot.
@@ -245,7 +221,7 @@ impl RowOrder {
             None => unreachable!(),
             Some(row) => {
                 let columns = self.whole.as_slice();
-                match self.tree.first_behind(&RowCut { rows, columns, row }) {
+                match self.tree.first_behind(&RowCut::of(rows, columns, row)) {
                     None => unreachable!(),
                     Some(place) => place,
                 }
@@ -253,16 +229,17 @@ impl RowOrder {
         }
     }
 
-    fn first_behind<C: Cut<u32>>(&self, cut: &C) -> Option<u32>
+    fn first_behind<C: Cut<Mark>>(&self, cut: &C) -> Option<u32>
         requires { IsParted (C.before cut.now) self.now.tree.items }
-        ensures { result ≡ find (λ slot. not (C.before cut.now slot)) self.now.tree.items }
+        ensures { result
+            ≡ slot_marked (find (λ mark. not (C.before cut.now mark)) self.now.tree.items) }
     {
         self.slot_at(self.tree.first_behind(cut))
     }
 
-    fn last_before<C: Cut<u32>>(&self, cut: &C) -> Option<u32>
+    fn last_before<C: Cut<Mark>>(&self, cut: &C) -> Option<u32>
         requires { IsParted (C.before cut.now) self.now.tree.items }
-        ensures { result ≡ find (C.before cut.now) (reverse self.now.tree.items) }
+        ensures { result ≡ slot_marked (find (C.before cut.now) (reverse self.now.tree.items)) }
     {
         self.slot_at(self.tree.last_before(cut))
     }
@@ -270,8 +247,8 @@ impl RowOrder {
     fn slot_at(&self, place: Option<Place>) -> Option<u32>
         requires { IfSome place (IsInside self.now.tree) }
         ensures { (found : Option ℕ) → Finds self.now.tree found place →
-            result ≡ option_and_then (slice_get self.now.tree.items) found }
+            result ≡ slot_marked (option_and_then (slice_get self.now.tree.items) found) }
     {
-        Some(self.tree.item_at(place?))
+        Some(self.tree.item_at(place?).slot)
     }
 }

@@ -2,6 +2,7 @@
 ghost use Rattle.std.specs.Prelude.{◌≡◌, [], ◌∷◌, MatchOption};
 
 use crate::cuts::row_in;
+use crate::mark::Mark;
 use row_types::Row;
 use std::marker::Model;
 
@@ -9,20 +10,21 @@ use std::marker::Model;
 #[derive(Drop)]
 pub struct Walk<'a> {
     pub(crate) rows: &'a [Option<Row>],
-    pub(crate) slots: index_tree::Walk<'a, u32>,
+    pub(crate) marks: index_tree::Walk<'a, Mark>,
 }
 
 impl<'a> Model for Walk<'a> {
     ghost use Rattle.std.specs.Prelude.{List};
     ghost use Rattle.std.specs.List.{AllByRecursion};
     ghost use Rattle.row_store.specs.Entries.{Entry, IsLive};
+    ghost use Rattle.row_store.specs.Marks.{slots_of};
     ghost use Rattle.row_store.specs.Walked.{entries_under};
 
     ghost Value = { List Entry };
 
-    ghost view = { λ walk. entries_under walk.rows.now walk.slots };
+    ghost view = { λ walk. entries_under walk.rows.now (slots_of walk.marks) };
 
-    ghost invariant = { λ walk. AllByRecursion (IsLive walk.rows.now) walk.slots };
+    ghost invariant = { λ walk. AllByRecursion (IsLive walk.rows.now) (slots_of walk.marks) };
 }
 
 impl<'a> Walk<'a> {
@@ -31,7 +33,7 @@ impl<'a> Walk<'a> {
         ensures { MatchOption result (self.old ≡ [] × self.new ≡ [])
             (λ found. self.old ≡ (found.1.now, found.0) ∷ self.new) }
     {
-        let slot = self.slots.next()?;
+        let slot = self.marks.next()?.slot;
         match row_in(self.rows, slot) {
             None => unreachable!(),
             Some(row) => Some((slot, row)),

@@ -1,7 +1,9 @@
 use Rattle.std.proofs.Common.{ℕ, false, not, List, find, Some, None, sym, ap, subst, ◌∙◌}
 use Rattle.index_tree.specs.Parts.{IsParted}
+use Rattle.row_store.specs.declared.mark.Mark.{Mark}
+use Rattle.row_store.specs.Cuts.{Line, is_before, line_at}
 use Rattle.row_store.specs.Entries.{row_at, cells, walk}
-use Rattle.row_store.specs.Inside.{is_ahead, slots_in}
+use Rattle.row_store.specs.Marks.{marks_in, slot_marked}
 use Rattle.row_store.specs.Walks.{IsKeyed, first_like, slot_in}
 use Rattle.row_store.proofs.LikeRows.{own_parted, like_slot, if_same}
 use Rattle.std.proofs.lemmas.Bool.{cond-true, cond-false}
@@ -15,8 +17,9 @@ first_behind-requires c =
     let row = c.args.row.now in
     let order = c.requires.order in
     let key = c.requires.columns.0 in
-    subst (λ (cs : List ℕ). IsParted (is_ahead rows cs (cells cs row) false) c.args.self.now.tree.items) (sym c.as_slice-columns.ensures.value)
-    (subst (IsParted (is_ahead rows own (cells own row) false)) (sym (order.walked ∙ ap (λ (cs : List ℕ). slots_in (walk cs rows)) c.requires.columns.1))
+    let line = c.of.ensures ∙ ap (λ (cs : List ℕ). line_at rows cs (cells cs row) false) c.as_slice-columns.ensures.value in
+    subst (λ (l : Line). IsParted (is_before l) c.args.self.now.tree.items) (sym line)
+    (subst (IsParted (is_before (line_at rows own (cells own row) false))) (sym (order.walked ∙ ap (λ (cs : List ℕ). marks_in cs (walk cs rows)) c.requires.columns.1))
     (own_parted own key row rows (subst (λ (cs : List ℕ). IsKeyed cs rows) c.requires.columns.1 order.apart)))
 
 pub returns-in_err-slot : goal.returns-in_err-slot
@@ -27,9 +30,10 @@ returns-in_err-slot c =
     let row = c.args.row.now in
     let order = c.requires.order in
     let columns = c.requires.columns.1 in
+    let line = c.of.ensures ∙ ap (λ (cs : List ℕ). line_at rows cs (cells cs row) false) c.as_slice-columns.ensures.value in
     let found = c.first_behind.ensures
-    ∙ ap (λ (cs : List ℕ). find (λ (s : ℕ). not (is_ahead rows cs (cells cs row) false s)) c.args.self.now.tree.items) c.as_slice-columns.ensures.value
-    ∙ ap (find (λ (s : ℕ). not (is_ahead rows own (cells own row) false s))) (order.walked ∙ ap (λ (cs : List ℕ). slots_in (walk cs rows)) columns) in
+    ∙ ap (λ (l : Line). slot_marked (find (λ (m : Mark). not (is_before l m)) c.args.self.now.tree.items)) line
+    ∙ ap (λ (ms : List Mark). slot_marked (find (λ (m : Mark). not (is_before (line_at rows own (cells own row) false) m)) ms)) (order.walked ∙ ap (λ (cs : List ℕ). marks_in cs (walk cs rows)) columns) in
     let told = ap (λ (cs : List ℕ). slot_in (first_like own row (walk cs rows))) columns
     ∙ like_slot own key row rows c.first_behind.result (subst (λ (cs : List ℕ). IsKeyed cs rows) columns order.apart) found in
     c.from_residual.ensures ∙ sym (told ∙ ap (if_same own key row rows) c.in_err-slot.was)
@@ -42,9 +46,10 @@ returns-then-is_same c =
     let row = c.args.row.now in
     let order = c.requires.order in
     let columns = c.requires.columns.1 in
+    let line = c.of.ensures ∙ ap (λ (cs : List ℕ). line_at rows cs (cells cs row) false) c.as_slice-columns.ensures.value in
     let found = c.first_behind.ensures
-    ∙ ap (λ (cs : List ℕ). find (λ (s : ℕ). not (is_ahead rows cs (cells cs row) false s)) c.args.self.now.tree.items) c.as_slice-columns.ensures.value
-    ∙ ap (find (λ (s : ℕ). not (is_ahead rows own (cells own row) false s))) (order.walked ∙ ap (λ (cs : List ℕ). slots_in (walk cs rows)) columns) in
+    ∙ ap (λ (l : Line). slot_marked (find (λ (m : Mark). not (is_before l m)) c.args.self.now.tree.items)) line
+    ∙ ap (λ (ms : List Mark). slot_marked (find (λ (m : Mark). not (is_before (line_at rows own (cells own row) false) m)) ms)) (order.walked ∙ ap (λ (cs : List ℕ). marks_in cs (walk cs rows)) columns) in
     let told = ap (λ (cs : List ℕ). slot_in (first_like own row (walk cs rows))) columns
     ∙ like_slot own key row rows c.first_behind.result (subst (λ (cs : List ℕ). IsKeyed cs rows) columns order.apart) found in
     let slot = c.in_ok-slot.slot in
@@ -59,9 +64,10 @@ returns-else-is_same c =
     let row = c.args.row.now in
     let order = c.requires.order in
     let columns = c.requires.columns.1 in
+    let line = c.of.ensures ∙ ap (λ (cs : List ℕ). line_at rows cs (cells cs row) false) c.as_slice-columns.ensures.value in
     let found = c.first_behind.ensures
-    ∙ ap (λ (cs : List ℕ). find (λ (s : ℕ). not (is_ahead rows cs (cells cs row) false s)) c.args.self.now.tree.items) c.as_slice-columns.ensures.value
-    ∙ ap (find (λ (s : ℕ). not (is_ahead rows own (cells own row) false s))) (order.walked ∙ ap (λ (cs : List ℕ). slots_in (walk cs rows)) columns) in
+    ∙ ap (λ (l : Line). slot_marked (find (λ (m : Mark). not (is_before l m)) c.args.self.now.tree.items)) line
+    ∙ ap (λ (ms : List Mark). slot_marked (find (λ (m : Mark). not (is_before (line_at rows own (cells own row) false) m)) ms)) (order.walked ∙ ap (λ (cs : List ℕ). marks_in cs (walk cs rows)) columns) in
     let told = ap (λ (cs : List ℕ). slot_in (first_like own row (walk cs rows))) columns
     ∙ like_slot own key row rows c.first_behind.result (subst (λ (cs : List ℕ). IsKeyed cs rows) columns order.apart) found in
     let slot = c.in_ok-slot.slot in

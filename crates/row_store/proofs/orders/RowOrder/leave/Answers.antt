@@ -1,8 +1,9 @@
-use Rattle.std.proofs.Common.{◌≡◌, ℕ, List, length, remove, Some, None, slice_get, ap, subst, ◌∙◌, arith}
+use Rattle.std.proofs.Common.{◌≡◌, List, length, remove, Some, None, slice_get, ap, subst, ◌∙◌, arith}
 use Rattle.std.proofs.lemmas.List.{length-set}
 use Rattle.std.proofs.lemmas.List.Edits.{length-remove}
-use Rattle.std.proofs.lemmas.Option.{slice_get_within}
-use Rattle.row_store.proofs.OrderSteps.{live_row, slots_taken}
+use Rattle.row_store.specs.declared.mark.Mark.{Mark}
+use Rattle.row_store.specs.Marks.{slot_marked}
+use Rattle.row_store.proofs.OrderSteps.{live_row, marks_taken}
 use Rattle.row_store.proofs.WalkChanges.{keyed_take}
 use Rattle.row_store.proofs.orders.RowOrder.leave.Goals as goal
 
@@ -16,6 +17,6 @@ returns-clause-order c =
     let taken = c.remove_at.ensures.items before is_at in
     record {
       apart = keyed_take whole rows c.args.slot live.0 live.1 order.apart;
-      walked = taken ∙ ap (λ (items : List ℕ). remove items before) order.walked ∙ slots_taken whole rows c.args.slot live.0 live.1 order.apart before (subst (λ (items : List ℕ). slice_get items before ≡ Some c.args.slot) order.walked there);
-      room = omega (arith, ap length taken, length-remove c.args.self.now.tree.items before (slice_get_within c.args.self.now.tree.items before c.args.slot there), c.remove_at.ensures.spare, order.room, length-set rows c.args.slot None);
+      walked = taken ∙ ap (λ (items : List Mark). remove items before) order.walked ∙ marks_taken whole rows c.args.slot live.0 live.1 order.apart before (subst (λ (items : List Mark). slot_marked (slice_get items before) ≡ Some c.args.slot) order.walked there);
+      room = omega (arith, ap length taken, length-remove c.args.self.now.tree.items before is_at.within, c.remove_at.ensures.spare, order.room, length-set rows c.args.slot None);
     }

@@ -1,18 +1,22 @@
 use Rattle.std.proofs.Common.{◌≡◌, ℕ, false, not, List, Option, Some, slice_get, IsSomeAnd, option_copied, sym, ap, subst, ◌∙◌}
 use Rattle.index_tree.specs.Parts.{IsParted, first_place}
 use Rattle.index_tree.specs.Contents.{IsAt}
+use Rattle.row_store.specs.declared.mark.Mark.{Mark}
+use Rattle.row_store.specs.Cuts.{Line, is_before, line_at}
 use Rattle.row_store.specs.Entries.{row_at, cells}
-use Rattle.row_store.specs.Inside.{is_ahead}
-use Rattle.row_store.proofs.OrderSteps.{slots_parted, place_in_walk, place_found, slot_in_walk, found_place}
+use Rattle.row_store.specs.Marks.{slot_marked}
+use Rattle.row_store.proofs.OrderSteps.{marks_parted, place_in_walk, place_found, mark_in_walk, found_place}
 use Rattle.row_store.proofs.orders.RowOrder.place_of.Goals as goal
 
 pub first_behind-requires : goal.first_behind-requires
 first_behind-requires c =
     let whole = c.args.self.now.whole.items in
+    let rows = c.args.rows.now in
     let row = c.in-Some.row.now in
+    let line = c.of.ensures ∙ ap (λ (cs : List ℕ). line_at rows cs (cells cs row) false) c.as_slice-columns.ensures.value in
     record {
-      parted = subst (λ (cs : List ℕ). IsParted (is_ahead c.args.rows.now cs (cells cs row) false) c.args.self.now.tree.items) (sym c.as_slice-columns.ensures.value)
-          (subst (IsParted (is_ahead c.args.rows.now whole (cells whole row) false)) (sym c.requires.order.walked) (slots_parted whole c.args.rows.now (cells whole row) false c.requires.order.apart));
+      parted = subst (λ (l : Line). IsParted (is_before l) c.args.self.now.tree.items) (sym line)
+          (subst (IsParted (is_before (line_at rows whole (cells whole row) false))) (sym c.requires.order.walked) (marks_parted whole rows (cells whole row) false c.requires.order.apart));
     }
 
 pub unreachable-requires-in-None-first_behind : goal.unreachable-requires-in-None-first_behind
@@ -21,8 +25,9 @@ unreachable-requires-in-None-first_behind c =
     let rows = c.args.rows.now in
     let row = c.in-Some.row.now in
     let live : row_at rows c.args.slot ≡ Some row = sym c.row_in.ensures ∙ ap option_copied c.in-Some.is in
-    let where_it_is = ap (λ (cs : List ℕ). first_place (λ (s : ℕ). not (is_ahead rows cs (cells cs row) false s)) c.args.self.now.tree.items) c.as_slice-columns.ensures.value
-    ∙ ap (first_place (λ (s : ℕ). not (is_ahead rows whole (cells whole row) false s))) c.requires.order.walked ∙ place_found whole rows c.args.slot row live c.requires.order.apart in
+    let line = c.of.ensures ∙ ap (λ (cs : List ℕ). line_at rows cs (cells cs row) false) c.as_slice-columns.ensures.value in
+    let where_it_is = ap (λ (l : Line). first_place (λ (m : Mark). not (is_before l m)) c.args.self.now.tree.items) line
+    ∙ ap (first_place (λ (m : Mark). not (is_before (line_at rows whole (cells whole row) false) m))) c.requires.order.walked ∙ place_found whole rows c.args.slot row live c.requires.order.apart in
     subst (λ (o : Option ℕ). IsSomeAnd o (λ (at : ℕ). IsAt c.args.self.now.tree at (place_in_walk whole rows c.args.slot row live c.requires.order.apart).0)) c.in-None-first_behind.is
     (found_place c.args.self.now.tree _ _ c.first_behind.result c.first_behind.ensures.first where_it_is)
 
@@ -32,11 +37,12 @@ returns c =
     let rows = c.args.rows.now in
     let row = c.in-Some.row.now in
     let live : row_at rows c.args.slot ≡ Some row = sym c.row_in.ensures ∙ ap option_copied c.in-Some.is in
-    let where_it_is = ap (λ (cs : List ℕ). first_place (λ (s : ℕ). not (is_ahead rows cs (cells cs row) false s)) c.args.self.now.tree.items) c.as_slice-columns.ensures.value
-    ∙ ap (first_place (λ (s : ℕ). not (is_ahead rows whole (cells whole row) false s))) c.requires.order.walked ∙ place_found whole rows c.args.slot row live c.requires.order.apart in
+    let line = c.of.ensures ∙ ap (λ (cs : List ℕ). line_at rows cs (cells cs row) false) c.as_slice-columns.ensures.value in
+    let where_it_is = ap (λ (l : Line). first_place (λ (m : Mark). not (is_before l m)) c.args.self.now.tree.items) line
+    ∙ ap (first_place (λ (m : Mark). not (is_before (line_at rows whole (cells whole row) false) m))) c.requires.order.walked ∙ place_found whole rows c.args.slot row live c.requires.order.apart in
     let k = (place_in_walk whole rows c.args.slot row live c.requires.order.apart).0 in (
       k,
       subst (λ (o : Option ℕ). IsSomeAnd o (λ (at : ℕ). IsAt c.args.self.now.tree at k)) c.in-Some-first_behind.is
           (found_place c.args.self.now.tree _ _ c.first_behind.result c.first_behind.ensures.first where_it_is),
-      subst (λ (items : List ℕ). slice_get items k ≡ Some c.args.slot) (sym c.requires.order.walked) (slot_in_walk whole rows c.args.slot row live c.requires.order.apart),
+      subst (λ (items : List Mark). slot_marked (slice_get items k) ≡ Some c.args.slot) (sym c.requires.order.walked) (mark_in_walk whole rows c.args.slot row live c.requires.order.apart),
     )

@@ -3,7 +3,7 @@ use Rattle.row_store.specs.Entries.{row_at}
 use Rattle.std.proofs.lemmas.List.{length-set}
 use Rattle.row_store.specs.Inside.{is_same}
 use Rattle.row_store.proofs.KeptRows.{live_within}
-use Rattle.row_store.proofs.OrderSteps.{live_row, slots_same}
+use Rattle.row_store.proofs.OrderSteps.{live_row, marks_same}
 use Rattle.row_store.proofs.WalkChanges.{keyed_put, keyed_take}
 use Rattle.row_store.proofs.orders.RowOrder.shift.Goals as goal
 
@@ -19,6 +19,6 @@ returns-then-is_same-clause-order c =
     let keyed = keyed_put whole rows c.args.slot (live_within rows c.args.slot live.0 live.1) row (keyed_take whole rows c.args.slot live.0 live.1 order.apart) c.requires.new in
     record {
       apart = keyed;
-      walked = order.walked ∙ slots_same whole rows c.args.slot live.0 live.1 order.apart row keyed ties;
+      walked = order.walked ∙ marks_same whole rows c.args.slot live.0 live.1 order.apart row keyed ties;
       room = omega (arith, order.room, length-set rows c.args.slot (Some row));
     }
