@@ -1,3 +1,4 @@
 pub mod Script
 pub mod Running
 pub mod Ends
+pub mod Examples

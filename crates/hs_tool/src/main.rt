@@ -2,6 +2,7 @@
 #![tactic(auto)]
 
 use hs_outside::{Sink, StreamSink, StreamSource, write_all};
+use hs_replay::{asks_help, top};
 use std::alloc::{AllocError, Global};
 use std::process::ExitCode;
 use std::{env, io};
@@ -33,13 +34,6 @@ fn words_of(rt: &HostRuntime) -> Result<Vec<String>, AllocError> {
     }
 }
 
-fn is_help(words: &[String]) -> bool {
-    match words {
-        [word] => word.as_str() == "--help",
-        _ => false,
-    }
-}
-
 fn main(rt: HostRuntime) -> ExitCode {
     let mut out = StreamSink::new(rt.stdout());
     let mut err = StreamSink::new(rt.stderr());
@@ -47,12 +41,12 @@ fn main(rt: HostRuntime) -> ExitCode {
         let _ = write_all(&mut err, b"memory\n");
         return ExitCode::from(NO_MEMORY);
     };
-    if is_help(&words) {
+    if asks_help(&words) {
         return match write_all(&mut out, HELP) {
             Ok(()) => ExitCode::from(0),
             Err(_) => ExitCode::from(WRITE_FAULT),
         };
     }
     let mut script = StreamSource::new(rt.stdin());
-    ExitCode::from(hs_replay::top(rt.alloc(), &words, &mut script, &mut out, &mut err))
+    ExitCode::from(top(rt.alloc(), &words, &mut script, &mut out, &mut err))
 }

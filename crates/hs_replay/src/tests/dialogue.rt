@@ -30,6 +30,17 @@ pub fn push_tabbed(out: &mut Vec<u8>, text: &[u8]) -> Result<(), AllocError> {
     Ok(())
 }
 
+/// A script of these lines, behind the table or not, with blanks for tabs.
+pub fn script_of(alloc: Global, with_table: bool, lines: &[u8]) -> Result<Vec<u8>, AllocError> {
+    let mut script = Vec::new(alloc);
+    if with_table {
+        push_tabbed(&mut script, TABLE)?;
+        script.push(b'\n')?;
+    }
+    push_tabbed(&mut script, lines)?;
+    Ok(script)
+}
+
 /// Appends a line whose last token is a piece.
 fn push_piece(
     alloc: Global,

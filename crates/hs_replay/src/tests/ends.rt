@@ -1,5 +1,5 @@
-//! How a run ends: its statuses, and the line that says which part of a script is bad.
-use super::dialogue::{TABLE, push_tabbed, run_script};
+//! How a run ends: its statuses, and what is said on the error output.
+use super::dialogue::{run_script, script_of};
 use super::*;
 use hs_outside::{MemSink, MemSource};
 use std::alloc::{AllocError, Global};
@@ -10,129 +10,6 @@ fn the_empty_script_prints_nothing(rt: HostRuntime) -> Result<(), Fail> {
     let ran = run_script(rt.alloc(), b"", 1)?;
     assert_eq!(rt; ran.status, 0);
     assert!(rt; ran.out.bytes().is_empty() && ran.err.bytes().is_empty());
-    Ok(())
-}
-
-/// The script of these lines behind the table, with blanks for tabs.
-fn script_of(alloc: Global, with_table: bool, lines: &[u8]) -> Result<Vec<u8>, AllocError> {
-    let mut script = Vec::new(alloc);
-    if with_table {
-        push_tabbed(&mut script, TABLE)?;
-        script.push(b'\n')?;
-    }
-    push_tabbed(&mut script, lines)?;
-    Ok(script)
-}
-
-/// Whether the line that is said to be bad is the first bad one of a script of these lines behind the table.
-fn is_bad(rt: &HostRuntime, lines: &[u8], said: &[u8]) -> Result<bool, Fail> {
-    let alloc = rt.alloc();
-    let script = script_of(alloc, true, lines)?;
-    let ran = run_script(alloc, &script, 7)?;
-    Ok(ran.status == 4 && ran.err.bytes() == said)
-}
-
-#[test]
-fn a_bad_line_has_its_number(rt: HostRuntime) -> Result<(), Fail> {
-    assert!(rt; is_bad(&rt, b"\n", b"script line 2\n")?);
-    assert!(rt; is_bad(&rt, b"turn w 9\n", b"script line 2\n")?);
-    assert!(rt; is_bad(&rt, b"open 1 w", b"script line 2\n")?);
-    assert!(rt; is_bad(&rt, b"open 1 x\n", b"script line 2\n")?);
-    assert!(rt; is_bad(&rt, b"open 1 s\n", b"script line 2\n")?);
-    assert!(rt; is_bad(&rt, b"open 1 w 1\n", b"script line 2\n")?);
-    assert!(rt; is_bad(&rt, b"open 1 w\nopen 1 w\n", b"script line 3\n")?);
-    assert!(rt; is_bad(&rt, b"open 1 w\nopen 01 r\n", b"script line 3\n")?);
-    assert!(rt; is_bad(&rt, b"open 1 w\nturn r 1\n", b"script line 3\n")?);
-    assert!(rt; is_bad(&rt, b"open 1 w\nturn w\n", b"script line 3\n")?);
-    assert!(rt; is_bad(&rt, b"open 1 w\nturn w 1 1\n", b"script line 3\n")?);
-    assert!(rt; is_bad(&rt, b"open 1 w\nturn w 1 2\n", b"script line 3\n")?);
-    Ok(())
-}
-
-#[test]
-fn an_event_that_may_not_come_has_its_number(rt: HostRuntime) -> Result<(), Fail> {
-    assert!(rt; is_bad(&rt, b"open 1 w\nturn w 1\r\n", b"script line 3\n")?);
-    assert!(rt; is_bad(&rt, b"open 1 w\nbytes 1\n", b"script line 3\n")?);
-    assert!(rt; is_bad(&rt, b"open 1 w\nbytes 2 x\n", b"script line 3\n")?);
-    assert!(rt; is_bad(&rt, b"open 1 w\nbytes 1 \x00\n", b"script line 3\n")?);
-    assert!(rt; is_bad(&rt, b"open 1 w\nend 1\nend 1\n", b"script line 4\n")?);
-    assert!(rt; is_bad(&rt, b"open 1 w\nend 1\nbytes 1 x\n", b"script line 4\n")?);
-    assert!(rt; is_bad(&rt, b"open 1 w\nroom 2 1\n", b"script line 3\n")?);
-    assert!(rt; is_bad(&rt, b"open 1 w\nroom 1 4294967296\n", b"script line 3\n")?);
-    assert!(rt; is_bad(&rt, b"fault 1\n", b"script line 2\n")?);
-    assert!(rt; is_bad(&rt, b"show test u\n", b"script line 2\n")?);
-    assert!(rt; is_bad(&rt, b"show test\n", b"script line 2\n")?);
-    // A connection that has closed is no longer open, and its number isn't used again.
-    assert!(rt;
-        is_bad(
-            &rt,
-            b"open 1 w\nend 1\nturn w 1\nturn w 1\n",
-            b"script line 5\n"
-        )?
-    );
-    assert!(rt;
-        is_bad(
-            &rt,
-            b"open 1 w\nend 1\nturn w 1\nopen 1 w\n",
-            b"script line 5\n"
-        )?
-    );
-    Ok(())
-}
-
-#[test]
-fn the_head_is_over_with_the_first_event(rt: HostRuntime) -> Result<(), Fail> {
-    // The head is over with the first event.
-    assert!(rt; is_bad(&rt, b"open 1 w\nlimit bytes 9\n", b"script line 3\n")?);
-    assert!(rt; is_bad(&rt, b"open 1 w\nsecret r k\n", b"script line 3\n")?);
-    assert!(rt; is_bad(&rt, b"open 1 w\ntable x\n", b"script line 3\n")?);
-    assert!(rt; is_bad(&rt, b"limit bytes 9\nlimit bytes 9\n", b"script line 3\n")?);
-    assert!(rt;
-        is_bad(
-            &rt,
-            b"secret r k\nsecret w k\nsecret r k\n",
-            b"script line 4\n"
-        )?
-    );
-    assert!(rt; is_bad(&rt, b"limit bytes 0\n", b"script line 2\n")?);
-    Ok(())
-}
-
-/// Whether a table line of the script breaks the rule that is said.
-fn breaks(rt: &HostRuntime, with_table: bool, lines: &[u8], said: &[u8]) -> Result<bool, Fail> {
-    let alloc = rt.alloc();
-    let script = script_of(alloc, with_table, lines)?;
-    let ran = run_script(alloc, &script, 7)?;
-    Ok(ran.status == 3 && ran.err.bytes() == said)
-}
-
-#[test]
-fn a_table_line_breaks_a_rule_at_a_token(rt: HostRuntime) -> Result<(), Fail> {
-    assert!(rt;
-        breaks(
-            &rt,
-            false,
-            b"table test t c id int not \x00\n",
-            b"schema line 1 noprimary 8\n"
-        )?
-    );
-    assert!(rt;
-        breaks(
-            &rt,
-            true,
-            b"table test t c id int not \x00 i PRIMARY primary id\n",
-            b"schema line 2 duplicate 2\n"
-        )?
-    );
-    assert!(rt; breaks(&rt, true, b"table 9 u\n", b"schema line 2 badname 1\n")?);
-    assert!(rt;
-        breaks(
-            &rt,
-            true,
-            b"limit bytes 9\ntable test u c id real\n",
-            b"schema line 3 badkind 5\n"
-        )?
-    );
     Ok(())
 }
 
@@ -253,43 +130,5 @@ fn a_fault_of_the_error_output_changes_no_status(rt: HostRuntime) -> Result<(), 
     let (status, _, err) = run_failing(rt.alloc(), &["replay", "j"], b"x\n", faults)?;
     assert_eq!(rt; status, 4);
     assert!(rt; err.bytes().is_empty());
-    Ok(())
-}
-
-#[test]
-fn of_257_connections_the_last_is_no_event(rt: HostRuntime) -> Result<(), Fail> {
-    let alloc = rt.alloc();
-    for (count, status) in [(256, 0), (257, 4)] {
-        let mut script = Vec::new(alloc);
-        let mut digits = itoa::Buffer::new();
-        for number in 0u32..count {
-            script.extend_from_slice(b"open\t")?;
-            script.extend_from_slice(digits.format(number).as_bytes())?;
-            script.extend_from_slice(b"\tr\n")?;
-        }
-        let ran = run_script(alloc, &script, 4096)?;
-        assert_eq!(rt; ran.status, status);
-        if status == 4 {
-            assert!(rt; ran.err.bytes() == b"script line 257\n".as_slice());
-        }
-    }
-    Ok(())
-}
-
-#[test]
-fn a_script_line_may_have_65536_bytes(rt: HostRuntime) -> Result<(), Fail> {
-    let alloc = rt.alloc();
-    for (len, ended, status) in [(65_528, true, 0), (65_529, true, 4), (70_000, false, 4)] {
-        let mut script = script_of(alloc, false, b"open 1 w\nbytes 1 ")?;
-        for _ in 0..len {
-            script.push(b'x')?;
-        }
-        if ended {
-            script.push(b'\n')?;
-        }
-        let ran = run_script(alloc, &script, 4096)?;
-        assert_eq!(rt; ran.status, status);
-        assert!(rt; ran.out.bytes().is_empty());
-    }
     Ok(())
 }

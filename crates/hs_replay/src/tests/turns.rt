@@ -1,4 +1,4 @@
-//! Turns over several connections, pieces cut anywhere, links that are full or fail, and how connections close.
+//! Turns over several connections, links that are full or fail, and how connections close.
 use super::dialogue::{Part, TABLE, holds, push_part, run_script};
 use Part::{Line, Prints, Says, Sent};
 use std::alloc::{AllocError, Global};
@@ -191,42 +191,6 @@ fn a_line_may_have_65536_bytes_and_no_more(rt: HostRuntime) -> Result<(), Fail> 
         }
         assert!(rt; prints(alloc, &script, &printed)?);
     }
-    Ok(())
-}
-
-/// The bytes of all `sent` lines of a script whose turns come after each byte, of which 17 lines aren't empty or 3.
-#[test]
-fn pieces_may_be_cut_anywhere(rt: HostRuntime) -> Result<(), Fail> {
-    let alloc = rt.alloc();
-    let asks: &[u8] = b"P\t1\ttest\tt\tPRIMARY\tid,name,n\n1\t+\t3\t1\tann\t5\n1\t=\t1\t1\n";
-    let mut script = Vec::new(alloc);
-    let mut printed = Vec::new(alloc);
-    push_parts(
-        alloc,
-        &mut script,
-        &mut printed,
-        &[Line(TABLE), Line(b"open 1 w")],
-    )?;
-    let mut line = 0;
-    for byte in asks {
-        script.extend_from_slice(b"bytes\t1\t")?;
-        match *byte {
-            b'\t' => script.extend_from_slice(b"\x01I")?,
-            b'\n' => script.extend_from_slice(b"\x01J")?,
-            byte => script.push(byte)?,
-        }
-        script.extend_from_slice(b"\nturn\tw\t1\n")?;
-        if *byte == b'\n' {
-            line = 1 + line % 3;
-        }
-        let sent: &[u8] = match (*byte, line) {
-            (b'\n', 3) => b"sent\t1\t0\x01I3\x01I1\x01Iann\x01I5\x01J\n",
-            (b'\n', _) => b"sent\t1\t0\x01I1\x01J\n",
-            _ => b"sent\t1\t\n",
-        };
-        printed.extend_from_slice(sent)?;
-    }
-    assert!(rt; prints(alloc, &script, &printed)?);
     Ok(())
 }
 
