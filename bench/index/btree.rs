@@ -1,4 +1,4 @@
-//! The same work on the standard library's BTreeMap.
+//! The same work on the standard library's BTreeMap, told in the same lines.
 use std::collections::BTreeMap;
 use std::ops::Bound;
 use std::time::Instant;
@@ -13,39 +13,41 @@ fn key_at(order: &str, i: u32) -> u64 {
     }
 }
 
-fn each(start: Instant) -> u128 {
-    start.elapsed().as_nanos() / COUNT as u128
+fn fill(order: &str) -> BTreeMap<u64, u32> {
+    let mut tree = BTreeMap::new();
+    for i in 0..COUNT {
+        let key = key_at(order, i);
+        if !tree.contains_key(&key) {
+            tree.insert(key, i);
+        }
+    }
+    tree
+}
+
+fn look_up(tree: &BTreeMap<u64, u32>, order: &str) -> u32 {
+    let mut sum = 0u32;
+    for i in 0..COUNT {
+        let low = Bound::Included(key_at(order, i));
+        if let Some((_, slot)) = tree.range((low, Bound::Unbounded)).next() {
+            sum = sum.wrapping_add(*slot);
+        }
+    }
+    sum
 }
 
 fn main() {
-    println!("BTreeMap    order       insert  look-up  up      down    (ns each; sum of slots)");
     for order in ["ascending", "descending", "shuffled"] {
-        let mut tree = BTreeMap::new();
         let start = Instant::now();
-        for i in 0..COUNT {
-            let key = key_at(order, i);
-            if tree.remove(&key).is_none() {
-                tree.insert(key, i);
-            }
-        }
-        let insert = each(start);
+        let tree = fill(order);
+        println!("insert-{order} {} {}", tree.len(), start.elapsed().as_nanos());
         let start = Instant::now();
-        let mut found = 0u32;
-        for i in 0..COUNT {
-            let low = Bound::Included(key_at(order, i));
-            if let Some((_, slot)) = tree.range((low, Bound::Unbounded)).next() {
-                found = u32::wrapping_add(found, *slot);
-            }
-        }
-        let look = each(start);
+        let sum = look_up(&tree, order);
+        println!("look-up-{order} {sum} {}", start.elapsed().as_nanos());
         let start = Instant::now();
-        let up = tree.values().fold(0u32, |sum, slot| sum.wrapping_add(*slot));
-        let rising = each(start);
+        let sum = tree.values().fold(0u32, |sum, slot| sum.wrapping_add(*slot));
+        println!("step-up-{order} {sum} {}", start.elapsed().as_nanos());
         let start = Instant::now();
-        let down = tree.values().rev().fold(0u32, |sum, slot| sum.wrapping_add(*slot));
-        let falling = each(start);
-        println!(
-            "            {order:<11} {insert:<7} {look:<8} {rising:<7} {falling:<7} ({found} {up} {down})"
-        );
+        let sum = tree.values().rev().fold(0u32, |sum, slot| sum.wrapping_add(*slot));
+        println!("step-down-{order} {sum} {}", start.elapsed().as_nanos());
     }
 }

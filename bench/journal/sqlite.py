@@ -1,5 +1,5 @@
-"""Inserts rows into a table of SQLite, one a transaction, with the WAL and every commit synced, and prints how many
-nanoseconds each took, for blobs of 40 and 4,000 bytes."""
+"""Inserts 1,000 rows into a table of SQLite, one a transaction, with the WAL and every commit synced, with blobs of 40
+bytes and of 4,000, and prints how many nanoseconds they took."""
 
 import sqlite3
 import time
@@ -15,7 +15,8 @@ def inserted(path: str, payload: bytes) -> int:
     start = time.perf_counter_ns()
     for _ in range(RECORDS):
         base.execute("INSERT INTO log (payload) VALUES (?)", (payload,))
-    return (time.perf_counter_ns() - start) // RECORDS
+    return time.perf_counter_ns() - start
 
 
-print(inserted("sqlite40", b"\7" * 40), inserted("sqlite4000", b"\7" * 4000))
+for size in 40, 4000:
+    print(f"append-of-{size}-bytes", RECORDS, inserted(f"sqlite{size}", b"\7" * size))
