@@ -37,7 +37,7 @@ module _ {X : Type 0} where
     pub count : length (joined done) + 1 ≡ length (joined chunks)
     pub size : length done ≡ length chunks
 
-  pub removed_at : (chunks : List (List X)) (place before c o : ℕ) (it less : List X) (item : X) → IsShaped chunks → IsSpotOf chunks place before → c ≡ place / 512 → o ≡ place % 512 → it ≡ get_or chunks c it → slice_get it o ≡ Some item → less ≡ remove it o → IsRemoved chunks (set chunks c less) c before item
+  pub removed_at : (chunks : List (List X)) (place before c o : ℕ) (it less : List X) (item : X) → IsShaped chunks → IsSpotOf chunks place before → c ≡ place / 256 → o ≡ place % 256 → it ≡ get_or chunks c it → slice_get it o ≡ Some item → less ≡ remove it o → IsRemoved chunks (set chunks c less) c before item
   removed_at chunks place before c o it less item shaped spot c_is o_is it_is item_is less_is =
       let inside : c < length chunks = rw c_is spot.inside in
       let within : o < length (chunk_at chunks c) = rw (c_is, o_is) spot.within in
@@ -57,7 +57,7 @@ module _ {X : Type 0} where
       }
 
   -- the item that was read
-  pub read_at : (chunks : List (List X)) (place before c o : ℕ) (it : List X) (item : X) → IsSpotOf chunks place before → c ≡ place / 512 → o ≡ place % 512 → it ≡ get_or chunks c it → slice_get it o ≡ Some item → slice_get (joined chunks) before ≡ Some item
+  pub read_at : (chunks : List (List X)) (place before c o : ℕ) (it : List X) (item : X) → IsSpotOf chunks place before → c ≡ place / 256 → o ≡ place % 256 → it ≡ get_or chunks c it → slice_get it o ≡ Some item → slice_get (joined chunks) before ≡ Some item
   read_at chunks place before c o it item spot c_is o_is it_is item_is =
       let inside : c < length chunks = rw c_is spot.inside in
       let within : o < length (chunk_at chunks c) = rw (c_is, o_is) spot.within in

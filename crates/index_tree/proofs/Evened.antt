@@ -14,8 +14,8 @@ module _ {X : Type 0} where
     pub items : joined done ≡ joined chunks
     pub shaped : IsShaped done
 
-  pub merged : (chunks without : List (List X)) (c : ℕ) (lower upper both : List X) → c + 1 < length chunks → AllByRecursion (λ xs. length xs ≤ 512) chunks → AllBut (λ xs. 256 ≤ length xs) (remove chunks (c + 1)) c
-      → 256 ≤ length (chunk_at chunks c) + length (chunk_at chunks (c + 1)) → length (chunk_at chunks c) + length (chunk_at chunks (c + 1)) ≤ 512
+  pub merged : (chunks without : List (List X)) (c : ℕ) (lower upper both : List X) → c + 1 < length chunks → AllByRecursion (λ xs. length xs ≤ 256) chunks → AllBut (λ xs. 128 ≤ length xs) (remove chunks (c + 1)) c
+      → 128 ≤ length (chunk_at chunks c) + length (chunk_at chunks (c + 1)) → length (chunk_at chunks c) + length (chunk_at chunks (c + 1)) ≤ 256
       → upper ≡ get_or chunks (c + 1) upper → without ≡ remove chunks (c + 1) → lower ≡ get_or without c lower → both ≡ lower ++ upper → IsEvened chunks (set without c both)
   merged chunks without c lower upper both inside fits others half below upper_is without_is lower_is both_is =
       let next : c + 1 ≡ suc c = omega arith in
@@ -39,7 +39,7 @@ module _ {X : Type 0} where
       let is_there = subst (λ (k : ℕ). slice_get (y ∷ (z ∷ zs)) k ≡ Some x) e is in
       rw e (ap (λ (ys : List X). y ∷ ys) (last_moves (z ∷ zs) x (omega arith) is_there))
 
-  pub shifted_up : (chunks : List (List X)) (c : ℕ) (lower less upper more : List X) (item : X) → c + 1 < length chunks → IsNearlyShaped chunks (c + 1) → length (chunk_at chunks (c + 1)) < 256 → 512 < length (chunk_at chunks c) + length (chunk_at chunks (c + 1))
+  pub shifted_up : (chunks : List (List X)) (c : ℕ) (lower less upper more : List X) (item : X) → c + 1 < length chunks → IsNearlyShaped chunks (c + 1) → length (chunk_at chunks (c + 1)) < 128 → 256 < length (chunk_at chunks c) + length (chunk_at chunks (c + 1))
       → lower ≡ get_or chunks c lower → slice_get lower (length lower - 1) ≡ Some item → less ≡ remove lower (length lower - 1) → upper ≡ get_or (set chunks c less) (c + 1) upper → more ≡ insert upper 0 item → IsEvened chunks (set (set chunks c less) (c + 1) more)
   shifted_up chunks c lower less upper more item inside nearly short both lower_is item_is less_is upper_is more_is =
       let next : c + 1 ≡ suc c = omega arith in
@@ -47,7 +47,7 @@ module _ {X : Type 0} where
       let low : lower ≡ chunk_at chunks c = get_or_read chunks c lower (omega arith) lower_is [] in
       let size = length-set chunks c less in
       let up : upper ≡ chunk_at chunks (c + 1) = get_or_read (set chunks c less) (c + 1) upper (omega arith) upper_is [] ∙ get_or-set_other chunks c (c + 1) less [] other in
-      let fits = all_read (λ (xs : List X). length xs ≤ 512) chunks c [] nearly.fits (omega arith) in
+      let fits = all_read (λ (xs : List X). length xs ≤ 256) chunks c [] nearly.fits (omega arith) in
       let up_size = ap length up in
       let low_size = ap length low in
       let less_size = length-remove lower (length lower - 1) (omega arith) in
@@ -66,7 +66,7 @@ module _ {X : Type 0} where
   first_moves [] x is = cc
   first_moves (y ∷ ys) x is = ap (λ (z : X). z ∷ ys) (sym (same_Some y x is))
 
-  pub shifted_down : (chunks : List (List X)) (c : ℕ) (lower more upper less : List X) (item : X) → c + 1 < length chunks → IsNearlyShaped chunks c → length (chunk_at chunks c) < 256 → 512 < length (chunk_at chunks c) + length (chunk_at chunks (c + 1))
+  pub shifted_down : (chunks : List (List X)) (c : ℕ) (lower more upper less : List X) (item : X) → c + 1 < length chunks → IsNearlyShaped chunks c → length (chunk_at chunks c) < 128 → 256 < length (chunk_at chunks c) + length (chunk_at chunks (c + 1))
       → upper ≡ get_or chunks (c + 1) upper → slice_get upper 0 ≡ Some item → less ≡ remove upper 0 → lower ≡ get_or (set chunks (c + 1) less) c lower → more ≡ insert lower (length lower) item → IsEvened chunks (set (set chunks (c + 1) less) c more)
   shifted_down chunks c lower more upper less item inside nearly short both upper_is item_is less_is lower_is more_is =
       let next : c + 1 ≡ suc c = omega arith in
@@ -74,7 +74,7 @@ module _ {X : Type 0} where
       let up : upper ≡ chunk_at chunks (c + 1) = get_or_read chunks (c + 1) upper inside upper_is [] in
       let size = length-set chunks (c + 1) less in
       let low : lower ≡ chunk_at chunks c = get_or_read (set chunks (c + 1) less) c lower (omega arith) lower_is [] ∙ get_or-set_other chunks (c + 1) c less [] other in
-      let fits = all_read (λ (xs : List X). length xs ≤ 512) chunks (c + 1) [] nearly.fits inside in
+      let fits = all_read (λ (xs : List X). length xs ≤ 256) chunks (c + 1) [] nearly.fits inside in
       let up_size = ap length up in
       let low_size = ap length low in
       let less_size = length-remove upper 0 (omega arith) in
@@ -93,26 +93,26 @@ module _ {X : Type 0} where
       }
 
   -- two neighbours, where one of them is short
-  pub others_behind : (chunks : List (List X)) (c : ℕ) → IsNearlyShaped chunks c → c + 1 < length chunks → AllBut (λ xs. 256 ≤ length xs) (remove chunks (c + 1)) c
+  pub others_behind : (chunks : List (List X)) (c : ℕ) → IsNearlyShaped chunks c → c + 1 < length chunks → AllBut (λ xs. 128 ≤ length xs) (remove chunks (c + 1)) c
   others_behind chunks c nearly inside =
       let next : c + 1 ≡ suc c = omega arith in
-      rw next (all_but_without_next (λ (xs : List X). 256 ≤ length xs) chunks c (nearly.others (omega arith)))
+      rw next (all_but_without_next (λ (xs : List X). 128 ≤ length xs) chunks c (nearly.others (omega arith)))
 
-  pub others_front : (chunks : List (List X)) (c : ℕ) → IsNearlyShaped chunks (c + 1) → c + 1 < length chunks → AllBut (λ xs. 256 ≤ length xs) (remove chunks (c + 1)) c
+  pub others_front : (chunks : List (List X)) (c : ℕ) → IsNearlyShaped chunks (c + 1) → c + 1 < length chunks → AllBut (λ xs. 128 ≤ length xs) (remove chunks (c + 1)) c
   others_front chunks c nearly inside =
       let next : c + 1 ≡ suc c = omega arith in
-      let others = subst (λ (k : ℕ). AllBut (λ (xs : List X). 256 ≤ length xs) chunks k) next (nearly.others (omega arith)) in
-      rw next (all_but_without_it (λ (xs : List X). 256 ≤ length xs) chunks c others)
+      let others = subst (λ (k : ℕ). AllBut (λ (xs : List X). 128 ≤ length xs) chunks k) next (nearly.others (omega arith)) in
+      rw next (all_but_without_it (λ (xs : List X). 128 ≤ length xs) chunks c others)
 
-  pub half_behind : (chunks : List (List X)) (c : ℕ) → IsNearlyShaped chunks c → c + 1 < length chunks → 256 ≤ length (chunk_at chunks c) + length (chunk_at chunks (c + 1))
+  pub half_behind : (chunks : List (List X)) (c : ℕ) → IsNearlyShaped chunks c → c + 1 < length chunks → 128 ≤ length (chunk_at chunks c) + length (chunk_at chunks (c + 1))
   half_behind chunks c nearly inside =
       let next : c + 1 ≡ suc c = omega arith in
-      let here = all_but_next (λ (xs : List X). 256 ≤ length xs) chunks c [] (nearly.others (omega arith)) (omega arith) in
+      let here = all_but_next (λ (xs : List X). 128 ≤ length xs) chunks c [] (nearly.others (omega arith)) (omega arith) in
       rw next (omega arith)
 
-  pub half_front : (chunks : List (List X)) (c : ℕ) → IsNearlyShaped chunks (c + 1) → c + 1 < length chunks → 256 ≤ length (chunk_at chunks c) + length (chunk_at chunks (c + 1))
+  pub half_front : (chunks : List (List X)) (c : ℕ) → IsNearlyShaped chunks (c + 1) → c + 1 < length chunks → 128 ≤ length (chunk_at chunks c) + length (chunk_at chunks (c + 1))
   half_front chunks c nearly inside =
       let next : c + 1 ≡ suc c = omega arith in
-      let others = subst (λ (k : ℕ). AllBut (λ (xs : List X). 256 ≤ length xs) chunks k) next (nearly.others (omega arith)) in
-      let here = all_but_prev (λ (xs : List X). 256 ≤ length xs) chunks c [] others (omega arith) in
+      let others = subst (λ (k : ℕ). AllBut (λ (xs : List X). 128 ≤ length xs) chunks k) next (nearly.others (omega arith)) in
+      let here = all_but_prev (λ (xs : List X). 128 ≤ length xs) chunks c [] others (omega arith) in
       omega arith

@@ -3,6 +3,7 @@ pub mod Ascending
 mod Changed
 pub mod Cuts
 pub mod Elements
+mod Beginnings
 pub mod Found
 pub mod InOrder
 mod Evened

@@ -1,4 +1,4 @@
--- Places of items in chunks: 512 numbers for each chunk.
+-- Places of items in chunks: 256 numbers for each chunk.
 --     item_within, named_there, at_spot      the place of the item at a spot
 --     spot_of, spot_is      the spot of an item, and of a place
 --     inside_found, finds_here, finds_end, finds_in_front      what a search answers
@@ -7,10 +7,15 @@ use Rattle.std.specs.List.{range_with_len}
 use Rattle.std.proofs.lemmas.Bool.{cases_lt, lt-ltb, le-ltb}
 use Rattle.std.proofs.lemmas.Option.{same_Some}
 use Rattle.index_tree.specs.Contents.{Contents, IsAt, IsInside, Finds, one_before}
-use Rattle.index_tree.specs.Chunked.{joined, chunk_at, start, places_from, held, IsShaped, IsItem}
+use Rattle.index_tree.specs.Chunked.{joined, chunk_at, start, places_from, held, IsShaped}
 use Rattle.index_tree.proofs.Elements.{some_is_none}
 use Rattle.index_tree.proofs.Joined.{start_later, start_next, start_end, chunk_none, within_joined, read_front, read_back}
 use Rattle.index_tree.proofs.Shaped.{all_read}
+
+-- an item stands at the spot
+pub record IsItem {X : Type 0} (chunks : List (List X)) (chunk offset : ℕ) : Type 0 where
+  pub inside : chunk < length chunks
+  pub within : offset < length (chunk_at chunks chunk)
 
 number_at : (from n k : ℕ) → k < n → slice_get (range_with_len from n) k ≡ Some (from + k)
 number_at from zero k below = absurd (omega arith)
@@ -23,13 +28,13 @@ length-range from (suc n) = ap suc (length-range (from + 1) n)
 
 module _ {X : Type 0} where
   -- the place at a spot
-  pub named_there : (chunks : List (List X)) (number c o : ℕ) → o < length (chunk_at chunks c) → slice_get (places_from number chunks) (start chunks c + o) ≡ Some (512 * (number + c) + o)
+  pub named_there : (chunks : List (List X)) (number c o : ℕ) → o < length (chunk_at chunks c) → slice_get (places_from number chunks) (start chunks c + o) ≡ Some (256 * (number + c) + o)
   named_there [] number c o below = absurd (omega arith)
   named_there (x ∷ rest) number zero o below =
       let e : 0 + o ≡ o = omega arith in
-      rw e (read_front (range_with_len (512 * number) (length x)) (places_from (number + 1) rest) o (omega (arith, length-range (512 * number) (length x))) ∙ number_at (512 * number) (length x) o below ∙ ap (λ (m : ℕ). Some m) (omega arith))
+      rw e (read_front (range_with_len (256 * number) (length x)) (places_from (number + 1) rest) o (omega (arith, length-range (256 * number) (length x))) ∙ number_at (256 * number) (length x) o below ∙ ap (λ (m : ℕ). Some m) (omega arith))
   named_there (x ∷ rest) number (suc c) o below =
-      read_back (range_with_len (512 * number) (length x)) (places_from (number + 1) rest) (start (x ∷ rest) (suc c) + o) (start rest c + o) (omega (arith, start_later x rest c, length-range (512 * number) (length x)))
+      read_back (range_with_len (256 * number) (length x)) (places_from (number + 1) rest) (start (x ∷ rest) (suc c) + o) (start rest c + o) (omega (arith, start_later x rest c, length-range (256 * number) (length x)))
       ∙ named_there rest (number + 1) c o below ∙ ap (λ (m : ℕ). Some m) (omega arith)
 
   -- each item stands at a spot
@@ -47,7 +52,7 @@ module _ {X : Type 0} where
   pub item_within : (chunks : List (List X)) (c o : ℕ) → o < length (chunk_at chunks c) → start chunks c + o < length (joined chunks)
   item_within chunks c o below = omega (arith, within_joined chunks c)
 
-  pub at_spot : (chunks pool : List (List X)) (c o : ℕ) → o < length (chunk_at chunks c) → IsAt (held chunks pool) (512 * c + o) (start chunks c + o)
+  pub at_spot : (chunks pool : List (List X)) (c o : ℕ) → o < length (chunk_at chunks c) → IsAt (held chunks pool) (256 * c + o) (start chunks c + o)
   at_spot chunks pool c o below = record {
     within = item_within chunks c o below;
     named = named_there chunks 0 c o below ∙ ap (λ (m : ℕ). Some m) (omega arith);
@@ -55,9 +60,9 @@ module _ {X : Type 0} where
 
   -- the spot that a place names
   pub record IsSpotOf (chunks : List (List X)) (place before : ℕ) : Type 0 where
-    pub inside : place / 512 < length chunks
-    pub within : place % 512 < length (chunk_at chunks (place / 512))
-    pub counted : start chunks (place / 512) + place % 512 ≡ before
+    pub inside : place / 256 < length chunks
+    pub within : place % 256 < length (chunk_at chunks (place / 256))
+    pub counted : start chunks (place / 256) + place % 256 ≡ before
 
   pub spot_is : (chunks pool : List (List X)) (place before : ℕ) → IsShaped chunks → IsAt (held chunks pool) place before → IsSpotOf chunks place before
   spot_is chunks pool place before shaped is_at = by_spot (spot_of chunks before is_at.within)
@@ -65,12 +70,12 @@ module _ {X : Type 0} where
       by_spot : (c : ℕ) × (o : ℕ) × IsItem chunks c o × (start chunks c + o ≡ before) → IsSpotOf chunks place before
       by_spot there =
           let named = named_there chunks 0 there.0 there.1 there.2.within in
-          let named_before = subst (λ (k : ℕ). slice_get (places_from 0 chunks) k ≡ Some (512 * (0 + there.0) + there.1)) there.3 named in
-          let same : 512 * (0 + there.0) + there.1 ≡ place = same_Some _ place (sym named_before ∙ is_at.named) in
-          let fits = all_read (λ (xs : List X). length xs ≤ 512) chunks there.0 [] shaped.fits there.2.inside in
+          let named_before = subst (λ (k : ℕ). slice_get (places_from 0 chunks) k ≡ Some (256 * (0 + there.0) + there.1)) there.3 named in
+          let same : 256 * (0 + there.0) + there.1 ≡ place = same_Some _ place (sym named_before ∙ is_at.named) in
+          let fits = all_read (λ (xs : List X). length xs ≤ 256) chunks there.0 [] shaped.fits there.2.inside in
           let small = there.2.within in
-          let chunk : place / 512 ≡ there.0 = omega arith in
-          let offset : place % 512 ≡ there.1 = omega arith in
+          let chunk : place / 256 ≡ there.0 = omega arith in
+          let offset : place % 256 ≡ there.1 = omega arith in
           record {
             inside = rw chunk there.2.inside;
             within = rw (chunk, offset) there.2.within;
@@ -83,7 +88,7 @@ module _ {X : Type 0} where
   inside_found tree (Some before) (Some place) finds = (before, finds)
 
   -- the item at a spot is found, or the first of the next chunk, or none
-  pub finds_here : (chunks pool : List (List X)) (c o place : ℕ) → o < length (chunk_at chunks c) → place ≡ 512 * c + o → Finds (held chunks pool) (cond (nat_lt (start chunks c + o) (length (joined chunks))) (Some (start chunks c + o)) None) (Some place)
+  pub finds_here : (chunks pool : List (List X)) (c o place : ℕ) → o < length (chunk_at chunks c) → place ≡ 256 * c + o → Finds (held chunks pool) (cond (nat_lt (start chunks c + o) (length (joined chunks))) (Some (start chunks c + o)) None) (Some place)
   finds_here chunks pool c o place below is = rw (lt-ltb _ _ (item_within chunks c o below), is) (at_spot chunks pool c o below)
 
   -- a spot behind all items of its chunk is at the end of the chunk
@@ -95,11 +100,11 @@ module _ {X : Type 0} where
       by_chunk inside (inr more) = omega arith
       by_chunk (inr outside) (inl less) = absurd (omega (arith, ap length (chunk_none chunks c outside)))
 
-  pub finds_next : (chunks pool : List (List X)) (c o place : ℕ) → IsShaped chunks → o ≤ length (chunk_at chunks c) → (c < length chunks → o < length (chunk_at chunks c) → ⊥) → c + 1 < length chunks → place ≡ 512 * (c + 1) → Finds (held chunks pool) (cond (nat_lt (start chunks c + o) (length (joined chunks))) (Some (start chunks c + o)) None) (Some place)
+  pub finds_next : (chunks pool : List (List X)) (c o place : ℕ) → IsShaped chunks → o ≤ length (chunk_at chunks c) → (c < length chunks → o < length (chunk_at chunks c) → ⊥) → c + 1 < length chunks → place ≡ 256 * (c + 1) → Finds (held chunks pool) (cond (nat_lt (start chunks c + o) (length (joined chunks))) (Some (start chunks c + o)) None) (Some place)
   finds_next chunks pool c o place shaped below past inside is =
       let end = at_end chunks c o below past in
       let next : c + 1 ≡ suc c = omega arith in
-      let has = all_read (λ (xs : List X). 256 ≤ length xs) chunks (suc c) [] (shaped.half (omega arith)) (omega arith) in
+      let has = all_read (λ (xs : List X). 128 ≤ length xs) chunks (suc c) [] (shaped.half (omega arith)) (omega arith) in
       let there : start chunks c + o ≡ start chunks (suc c) + 0 = omega (arith, start_next chunks c (omega arith)) in
       rw there (finds_here chunks pool (suc c) 0 place (omega arith) (omega arith))
 
@@ -114,16 +119,16 @@ module _ {X : Type 0} where
       by_chunk end (inr past_all) = omega (arith, start_end chunks c past_all)
 
   -- the item in front of a spot
-  pub finds_front : (chunks pool : List (List X)) (c o place number : ℕ) → o < length (chunk_at chunks c) → number ≡ start chunks c + o + 1 → place ≡ 512 * c + o → Finds (held chunks pool) (one_before number) (Some place)
+  pub finds_front : (chunks pool : List (List X)) (c o place number : ℕ) → o < length (chunk_at chunks c) → number ≡ start chunks c + o + 1 → place ≡ 256 * c + o → Finds (held chunks pool) (one_before number) (Some place)
   finds_front chunks pool c o place number below counted is =
       let e : number ≡ suc (start chunks c + o) = omega arith in
       rw (e, is) (at_spot chunks pool c o below)
 
   -- which is the last of the chunk in front, and that has one
   pub front_has : (chunks : List (List X)) (c : ℕ) → IsShaped chunks → c < length chunks → 0 < c → 0 < length (chunk_at chunks (c - 1))
-  front_has chunks c shaped inside some = omega (arith, all_read (λ (xs : List X). 256 ≤ length xs) chunks (c - 1) [] (shaped.half (omega arith)) (omega arith))
+  front_has chunks c shaped inside some = omega (arith, all_read (λ (xs : List X). 128 ≤ length xs) chunks (c - 1) [] (shaped.half (omega arith)) (omega arith))
 
-  pub finds_front_chunk : (chunks pool : List (List X)) (c place : ℕ) → IsShaped chunks → c < length chunks → 0 < c → place ≡ 512 * (c - 1) + (length (chunk_at chunks (c - 1)) - 1) → Finds (held chunks pool) (one_before (start chunks c + 0)) (Some place)
+  pub finds_front_chunk : (chunks pool : List (List X)) (c place : ℕ) → IsShaped chunks → c < length chunks → 0 < c → place ≡ 256 * (c - 1) + (length (chunk_at chunks (c - 1)) - 1) → Finds (held chunks pool) (one_before (start chunks c + 0)) (Some place)
   finds_front_chunk chunks pool c place shaped inside some is =
       let has = front_has chunks c shaped inside some in
       let prev : suc (c - 1) ≡ c = omega arith in

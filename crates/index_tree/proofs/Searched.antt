@@ -34,12 +34,12 @@ module _ {X : Type 0} (chunks pool : List (List X)) where
     pub walked_down : reverse (joined (take c chunks) ++ take o (chunk_at chunks c)) ≡ reverse (filter test (joined chunks))
     walked_down = ap (λ (xs : List X). reverse xs) (joined_front chunks c o cut.within ∙ sym (front_before test (joined chunks) parted (start chunks c + o) cut.counted))
 
-  pub found_after : (place before c o : ℕ) → IsSpotOf chunks place before → c ≡ place / 512 → o ≡ place % 512 + 1 → (answer : Option ℕ) → FindsFrom c o answer → Finds (held chunks pool) (one_after (length (joined chunks)) before) answer
+  pub found_after : (place before c o : ℕ) → IsSpotOf chunks place before → c ≡ place / 256 → o ≡ place % 256 + 1 → (answer : Option ℕ) → FindsFrom c o answer → Finds (held chunks pool) (one_after (length (joined chunks)) before) answer
   found_after place before c o spot c_is o_is answer finds =
       let counted : start chunks c + o ≡ before + 1 = rw c_is (omega (arith, spot.counted)) in
       subst (λ (k : ℕ). Finds (held chunks pool) (cond (nat_lt k (length (joined chunks))) (Some k) None) answer) counted finds
 
-  pub found_prior : (place before c o : ℕ) → IsSpotOf chunks place before → c ≡ place / 512 → o ≡ place % 512 → (answer : Option ℕ) → FindsUntil c o answer → Finds (held chunks pool) (one_before before) answer
+  pub found_prior : (place before c o : ℕ) → IsSpotOf chunks place before → c ≡ place / 256 → o ≡ place % 256 → (answer : Option ℕ) → FindsUntil c o answer → Finds (held chunks pool) (one_before before) answer
   found_prior place before c o spot c_is o_is answer finds =
       let counted : start chunks c + o ≡ before = rw (c_is, o_is) spot.counted in
       subst (λ (k : ℕ). Finds (held chunks pool) (one_before k) answer) counted finds

@@ -80,23 +80,23 @@ module _ {X : Type 0} (P : X → Type 0) where
 
 module _ {X : Type 0} where
   pub have_items : (chunks : List (List X)) → IsShaped chunks → 1 < length chunks → HaveItems chunks
-  have_items chunks shaped two = all_weaker (λ (xs : List X). 256 ≤ length xs) (λ (xs : List X). 0 < length xs) (λ xs half. omega arith) chunks (shaped.half two)
+  have_items chunks shaped two = all_weaker (λ (xs : List X). 128 ≤ length xs) (λ (xs : List X). 0 < length xs) (λ xs half. omega arith) chunks (shaped.half two)
 
   -- where the only chunk has half each has
-  pub all_half : (chunks : List (List X)) → IsShaped chunks → (c : ℕ) → 256 ≤ length (chunk_at chunks c) → AllByRecursion (λ (xs : List X). 256 ≤ length xs) chunks
+  pub all_half : (chunks : List (List X)) → IsShaped chunks → (c : ℕ) → 128 ≤ length (chunk_at chunks c) → AllByRecursion (λ (xs : List X). 128 ≤ length xs) chunks
   all_half [] shaped c full = tt
   all_half (x ∷ []) shaped zero full = (full, tt)
   all_half (x ∷ []) shaped (suc c) full = absurd (omega arith)
   all_half (x ∷ (y ∷ rest)) shaped c full = shaped.half (omega arith)
 
   -- a chunk that gets an item
-  pub shaped_set : (chunks : List (List X)) (c : ℕ) (new : List X) → IsShaped chunks → c < length chunks → length (chunk_at chunks c) ≤ length new → length new ≤ 512 → IsShaped (set chunks c new)
+  pub shaped_set : (chunks : List (List X)) (c : ℕ) (new : List X) → IsShaped chunks → c < length chunks → length (chunk_at chunks c) ≤ length new → length new ≤ 256 → IsShaped (set chunks c new)
   shaped_set chunks c new shaped inside more fits = record {
-    fits = all_set (λ (xs : List X). length xs ≤ 512) chunks c new shaped.fits fits;
+    fits = all_set (λ (xs : List X). length xs ≤ 256) chunks c new shaped.fits fits;
     half = λ two.
         let half = shaped.half (omega (arith, length-set chunks c new, two)) in
-        let here = all_read (λ (xs : List X). 256 ≤ length xs) chunks c [] half inside in
-        all_set (λ (xs : List X). 256 ≤ length xs) chunks c new half (omega arith);
+        let here = all_read (λ (xs : List X). 128 ≤ length xs) chunks c [] half inside in
+        all_set (λ (xs : List X). 128 ≤ length xs) chunks c new half (omega arith);
   }
 
   pub at_set : (chunks : List (List X)) (c : ℕ) (new : List X) → c < length chunks → chunk_at (set chunks c new) c ≡ new
@@ -109,11 +109,11 @@ module _ {X : Type 0} where
   nearly_set chunks c new shaped inside less = record {
     inside = omega (arith, length-set chunks c new);
     fits =
-        let here = all_read (λ (xs : List X). length xs ≤ 512) chunks c [] shaped.fits inside in
-        all_set (λ (xs : List X). length xs ≤ 512) chunks c new shaped.fits (omega arith);
-    others = λ two. all_but_set (λ (xs : List X). 256 ≤ length xs) chunks c new (shaped.half (omega (arith, length-set chunks c new, two)));
+        let here = all_read (λ (xs : List X). length xs ≤ 256) chunks c [] shaped.fits inside in
+        all_set (λ (xs : List X). length xs ≤ 256) chunks c new shaped.fits (omega arith);
+    others = λ two. all_but_set (λ (xs : List X). 128 ≤ length xs) chunks c new (shaped.half (omega (arith, length-set chunks c new, two)));
     nearly = λ two.
-        let here = all_read (λ (xs : List X). 256 ≤ length xs) chunks c [] (shaped.half (omega (arith, length-set chunks c new, two))) inside in
+        let here = all_read (λ (xs : List X). 128 ≤ length xs) chunks c [] (shaped.half (omega (arith, length-set chunks c new, two))) inside in
         rw (at_set chunks c new inside) (omega arith);
   }
 
@@ -121,48 +121,48 @@ module _ {X : Type 0} where
   pub shaped_alone : (chunks : List (List X)) (c : ℕ) → IsNearlyShaped chunks c → length chunks ≡ 1 → IsShaped chunks
   shaped_alone chunks c nearly one = record { fits = nearly.fits; half = λ two. absurd (omega arith) }
 
-  pub shaped_nearly : (chunks : List (List X)) (c : ℕ) → IsNearlyShaped chunks c → 256 ≤ length (chunk_at chunks c) → IsShaped chunks
-  shaped_nearly chunks c nearly half = record { fits = nearly.fits; half = λ two. all_from_but (λ (xs : List X). 256 ≤ length xs) chunks c [] (nearly.others two) half }
+  pub shaped_nearly : (chunks : List (List X)) (c : ℕ) → IsNearlyShaped chunks c → 128 ≤ length (chunk_at chunks c) → IsShaped chunks
+  shaped_nearly chunks c nearly half = record { fits = nearly.fits; half = λ two. all_from_but (λ (xs : List X). 128 ≤ length xs) chunks c [] (nearly.others two) half }
 
   -- an item goes from a chunk to its neighbour, where either of them is short
-  pub shaped_pair : (chunks : List (List X)) (c short : ℕ) (lower upper : List X) → IsNearlyShaped chunks short → (short ≡ c) ⊎ (short ≡ suc c) → 1 < length chunks → 256 ≤ length lower → length lower ≤ 512 → 256 ≤ length upper → length upper ≤ 512 → IsShaped (set (set chunks c lower) (suc c) upper)
+  pub shaped_pair : (chunks : List (List X)) (c short : ℕ) (lower upper : List X) → IsNearlyShaped chunks short → (short ≡ c) ⊎ (short ≡ suc c) → 1 < length chunks → 128 ≤ length lower → length lower ≤ 256 → 128 ≤ length upper → length upper ≤ 256 → IsShaped (set (set chunks c lower) (suc c) upper)
   shaped_pair chunks c short lower upper nearly (inl e) two low low_fits up up_fits =
-      let others = subst (λ (k : ℕ). AllBut (λ (xs : List X). 256 ≤ length xs) chunks k) e (nearly.others two) in
-      let lowers = all_but_fixed (λ (xs : List X). 256 ≤ length xs) chunks c lower others low in
+      let others = subst (λ (k : ℕ). AllBut (λ (xs : List X). 128 ≤ length xs) chunks k) e (nearly.others two) in
+      let lowers = all_but_fixed (λ (xs : List X). 128 ≤ length xs) chunks c lower others low in
       record {
-        fits = all_set (λ (xs : List X). length xs ≤ 512) (set chunks c lower) (suc c) upper (all_set (λ (xs : List X). length xs ≤ 512) chunks c lower nearly.fits low_fits) up_fits;
-        half = λ _. all_set (λ (xs : List X). 256 ≤ length xs) (set chunks c lower) (suc c) upper lowers up;
+        fits = all_set (λ (xs : List X). length xs ≤ 256) (set chunks c lower) (suc c) upper (all_set (λ (xs : List X). length xs ≤ 256) chunks c lower nearly.fits low_fits) up_fits;
+        half = λ _. all_set (λ (xs : List X). 128 ≤ length xs) (set chunks c lower) (suc c) upper lowers up;
       }
   shaped_pair chunks c short lower upper nearly (inr e) two low low_fits up up_fits =
-      let others = subst (λ (k : ℕ). AllBut (λ (xs : List X). 256 ≤ length xs) chunks k) e (nearly.others two) in
-      let lowers = all_but_kept (λ (xs : List X). 256 ≤ length xs) chunks (suc c) c lower others low in
+      let others = subst (λ (k : ℕ). AllBut (λ (xs : List X). 128 ≤ length xs) chunks k) e (nearly.others two) in
+      let lowers = all_but_kept (λ (xs : List X). 128 ≤ length xs) chunks (suc c) c lower others low in
       record {
-        fits = all_set (λ (xs : List X). length xs ≤ 512) (set chunks c lower) (suc c) upper (all_set (λ (xs : List X). length xs ≤ 512) chunks c lower nearly.fits low_fits) up_fits;
-        half = λ _. all_but_fixed (λ (xs : List X). 256 ≤ length xs) (set chunks c lower) (suc c) upper lowers up;
+        fits = all_set (λ (xs : List X). length xs ≤ 256) (set chunks c lower) (suc c) upper (all_set (λ (xs : List X). length xs ≤ 256) chunks c lower nearly.fits low_fits) up_fits;
+        half = λ _. all_but_fixed (λ (xs : List X). 128 ≤ length xs) (set chunks c lower) (suc c) upper lowers up;
       }
 
-  pub shaped_merged : (chunks : List (List X)) (c : ℕ) (both : List X) → AllByRecursion (λ (xs : List X). length xs ≤ 512) chunks → AllBut (λ (xs : List X). 256 ≤ length xs) (remove chunks (suc c)) c → 256 ≤ length both → length both ≤ 512 → IsShaped (set (remove chunks (suc c)) c both)
+  pub shaped_merged : (chunks : List (List X)) (c : ℕ) (both : List X) → AllByRecursion (λ (xs : List X). length xs ≤ 256) chunks → AllBut (λ (xs : List X). 128 ≤ length xs) (remove chunks (suc c)) c → 128 ≤ length both → length both ≤ 256 → IsShaped (set (remove chunks (suc c)) c both)
   shaped_merged chunks c both fits others half both_fit = record {
-    fits = all_set (λ (xs : List X). length xs ≤ 512) (remove chunks (suc c)) c both (all_removed (λ (xs : List X). length xs ≤ 512) chunks (suc c) fits) both_fit;
-    half = λ _. all_but_fixed (λ (xs : List X). 256 ≤ length xs) (remove chunks (suc c)) c both others half;
+    fits = all_set (λ (xs : List X). length xs ≤ 256) (remove chunks (suc c)) c both (all_removed (λ (xs : List X). length xs ≤ 256) chunks (suc c) fits) both_fit;
+    half = λ _. all_but_fixed (λ (xs : List X). 128 ≤ length xs) (remove chunks (suc c)) c both others half;
   }
 
-  pub shaped_split : (chunks : List (List X)) (c : ℕ) (lower upper : List X) → IsShaped chunks → 256 ≤ length (chunk_at chunks c) → length lower ≡ 256 → length upper ≡ 256 → IsShaped (insert (set chunks c lower) (suc c) upper)
+  pub shaped_split : (chunks : List (List X)) (c : ℕ) (lower upper : List X) → IsShaped chunks → 128 ≤ length (chunk_at chunks c) → length lower ≡ 128 → length upper ≡ 128 → IsShaped (insert (set chunks c lower) (suc c) upper)
   shaped_split chunks c lower upper shaped full low up = record {
-    fits = all_inserted (λ (xs : List X). length xs ≤ 512) (set chunks c lower) (suc c) upper (all_set (λ (xs : List X). length xs ≤ 512) chunks c lower shaped.fits (omega arith)) (omega arith);
-    half = λ _. all_inserted (λ (xs : List X). 256 ≤ length xs) (set chunks c lower) (suc c) upper (all_set (λ (xs : List X). 256 ≤ length xs) chunks c lower (all_half chunks shaped c full) (omega arith)) (omega arith);
+    fits = all_inserted (λ (xs : List X). length xs ≤ 256) (set chunks c lower) (suc c) upper (all_set (λ (xs : List X). length xs ≤ 256) chunks c lower shaped.fits (omega arith)) (omega arith);
+    half = λ _. all_inserted (λ (xs : List X). 128 ≤ length xs) (set chunks c lower) (suc c) upper (all_set (λ (xs : List X). 128 ≤ length xs) chunks c lower (all_half chunks shaped c full) (omega arith)) (omega arith);
   }
 
-  pub least_items : (chunks : List (List X)) → AllByRecursion (λ (xs : List X). 256 ≤ length xs) chunks → 256 * length chunks ≤ length (joined chunks)
+  pub least_items : (chunks : List (List X)) → AllByRecursion (λ (xs : List X). 128 ≤ length xs) chunks → 128 * length chunks ≤ length (joined chunks)
   least_items [] half = omega arith
   least_items (x ∷ xs) half = omega (arith, half.0, least_items xs half.1, length-append x (joined xs))
 
-  -- a full chunk has 256 items more than its share
-  pub full_items : (chunks : List (List X)) (c : ℕ) → AllByRecursion (λ (xs : List X). 256 ≤ length xs) chunks → 512 ≤ length (chunk_at chunks c) → 256 * length chunks + 256 ≤ length (joined chunks)
+  -- a full chunk has 128 items more than its share
+  pub full_items : (chunks : List (List X)) (c : ℕ) → AllByRecursion (λ (xs : List X). 128 ≤ length xs) chunks → 256 ≤ length (chunk_at chunks c) → 128 * length chunks + 128 ≤ length (joined chunks)
   full_items [] c half full = absurd (omega arith)
   full_items (x ∷ xs) zero half full = omega (arith, least_items xs half.1, length-append x (joined xs))
   full_items (x ∷ xs) (suc c) half full = omega (arith, half.0, full_items xs c half.1 full, length-append x (joined xs))
 
   -- so where one is full the pool is not empty
-  pub pool_has : (chunks : List (List X)) (c spare : ℕ) → IsShaped chunks → 512 ≤ length (chunk_at chunks c) → length (joined chunks) < 256 * (length chunks + spare) → 0 < spare
+  pub pool_has : (chunks : List (List X)) (c spare : ℕ) → IsShaped chunks → 256 ≤ length (chunk_at chunks c) → length (joined chunks) < 128 * (length chunks + spare) → 0 < spare
   pool_has chunks c spare shaped full covered = omega (arith, full_items chunks c (all_half chunks shaped c (omega arith)) full)

@@ -1,18 +1,22 @@
 -- Where a search by the first items of the chunks comes to stand.
 --     chunk_parted      a cut parts each chunk
---     chunks_partitioned, begun_at_point      the chunks that begin before the cut, as a search by halves counts them
+--     parted_firsts      a cut parts the first items
 --     cut_is      the spot in the last of them
 use Rattle.std.proofs.Common.{◌≡◌, ℕ, zero, suc, ◌+◌, ◌-◌, ◌<◌, ◌≤◌, Bool, true, false, cond, List, [], ◌∷◌, ◌++◌, length, count_by, sym, refl, ap, subst, ◌∙◌, arith}
 use Rattle.std.specs.List.{AllByRecursion}
-use Rattle.std.specs.List.Sorted.{IsPartitionPoint, IsPartitionedBy}
 use Rattle.std.proofs.lemmas.List.Sums.{sum_by-append}
 use Rattle.std.proofs.lemmas.Bool.{true≢false}
 use Rattle.index_tree.specs.Parts.{IsParted}
-use Rattle.index_tree.specs.Chunked.{joined, chunk_at, start, first_passes, IsShaped, HaveItems, IsCutAt}
-use Rattle.index_tree.proofs.Cuts.{IsCut, Falls, falls_from_parted, parted_from_falls, cut_at_count, partitioned, count_in_slice, count_yes, count_no, count_none}
+use Rattle.index_tree.specs.Chunked.{joined, chunk_at, start, IsShaped, HaveItems, IsCutAt, EachBeginsWith, AreFirsts}
+use Rattle.index_tree.proofs.Cuts.{IsCut, Falls, falls_from_parted, parted_from_falls, cut_at_count, count_yes, count_no, count_none}
 use Rattle.index_tree.proofs.Elements.{all_front, all_back}
 use Rattle.index_tree.proofs.Joined.{start_later}
 use Rattle.index_tree.proofs.Shaped.{have_items}
+
+-- whether the first item of a chunk passes
+abbrev first_passes : {X : Type 0} → (X → Bool) → List X → Bool
+first_passes test [] = false
+first_passes test (x ∷ xs) = test x
 
 module _ {X : Type 0} (test : X → Bool) where
   falls_front : (xs ys : List X) → Falls test (xs ++ ys) → Falls test xs
@@ -49,15 +53,39 @@ module _ {X : Type 0} (test : X → Bool) where
   falls_chunks (x ∷ []) shaped falls = (λ fails. tt, tt)
   falls_chunks (x ∷ (y ∷ rest)) shaped falls = falls_begun (x ∷ (y ∷ rest)) (have_items (x ∷ (y ∷ rest)) shaped (omega arith)) falls
 
-  module _ (chunks : List (List X)) (shaped : IsShaped chunks) (parted : IsParted test (joined chunks)) where
-    begun_falls : Falls (first_passes test) chunks
-    begun_falls = falls_chunks chunks shaped (falls_from_parted test (joined chunks) parted)
+  falls_firsts : (firsts : List X) (chunks : List (List X)) → HaveItems chunks → length firsts ≡ length chunks → EachBeginsWith firsts chunks → Falls (first_passes test) chunks → Falls test firsts
+  falls_firsts [] chunks items number begin falls = tt
+  falls_firsts (y ∷ ys) [] items number begin falls = absurd (omega arith)
+  falls_firsts (y ∷ ys) ([] ∷ rest) items number begin falls = absurd (omega (arith, items.0))
+  falls_firsts (y ∷ ys) ((x ∷ xs) ∷ rest) items number begin falls =
+      (λ fails. fail_firsts ys rest items.1 (omega arith) begin.1 (falls.0 (ap test (sym begin.0) ∙ fails)), falls_firsts ys rest items.1 (omega arith) begin.1 falls.1)
+    where
+      fail_firsts : (firsts : List X) (chunks : List (List X)) → HaveItems chunks → length firsts ≡ length chunks → EachBeginsWith firsts chunks → AllByRecursion (λ xs. first_passes test xs ≡ false) chunks → AllByRecursion (λ y. test y ≡ false) firsts
+      fail_firsts [] chunks items number begin none = tt
+      fail_firsts (y ∷ ys) [] items number begin none = absurd (omega arith)
+      fail_firsts (y ∷ ys) ([] ∷ rest) items number begin none = absurd (omega (arith, items.0))
+      fail_firsts (y ∷ ys) ((x ∷ xs) ∷ rest) items number begin none = (ap test begin.0 ∙ none.0, fail_firsts ys rest items.1 (omega arith) begin.1 none.1)
 
-    pub chunks_partitioned : IsPartitionedBy (first_passes test) chunks
-    chunks_partitioned = partitioned (first_passes test) chunks (parted_from_falls (first_passes test) chunks begun_falls)
+  -- so it parts the first items
+  pub parted_firsts : (firsts : List X) (chunks : List (List X)) → IsShaped chunks → AreFirsts firsts chunks → IsParted test (joined chunks) → IsParted test firsts
+  parted_firsts [] chunks shaped are parted = refl
+  parted_firsts (f ∷ firsts) [] shaped are parted = absurd (omega (arith, are.number))
+  parted_firsts (f ∷ []) (x ∷ []) shaped are parted = parted_from_falls test (f ∷ []) (λ fails. tt, tt)
+  parted_firsts (f ∷ (g ∷ firsts)) (x ∷ []) shaped are parted = absurd (omega (arith, are.number))
+  parted_firsts (f ∷ firsts) (x ∷ (y ∷ rest)) shaped are parted =
+      let falls = falls_chunks (x ∷ (y ∷ rest)) shaped (falls_from_parted test (joined (x ∷ (y ∷ rest))) parted) in
+      parted_from_falls test (f ∷ firsts) (falls_firsts (f ∷ firsts) (x ∷ (y ∷ rest)) (have_items (x ∷ (y ∷ rest)) shaped (omega arith)) are.number are.begin falls)
 
-    pub begun_at_point : (slice : List (List X)) (point : ℕ) → slice ≡ chunks → point ≤ length slice → IsPartitionPoint (λ xs. first_passes test xs ≡ true) (λ xs. first_passes test xs ≡ false) slice point → point ≡ count_by (first_passes test) chunks
-    begun_at_point = count_in_slice (first_passes test) chunks
+  count_each : (firsts : List X) (chunks : List (List X)) → HaveItems chunks → length firsts ≡ length chunks → EachBeginsWith firsts chunks → count_by test firsts ≡ count_by (first_passes test) chunks
+  count_each [] [] items number begin = refl
+  count_each [] (x ∷ rest) items number begin = absurd (omega arith)
+  count_each (y ∷ ys) [] items number begin = absurd (omega arith)
+  count_each (y ∷ ys) ([] ∷ rest) items number begin = absurd (omega (arith, items.0))
+  count_each (y ∷ ys) ((x ∷ xs) ∷ rest) items number begin = by_test (count_each ys rest items.1 (omega arith) begin.1) (test x) refl
+    where
+      by_test : count_by test ys ≡ count_by (first_passes test) rest → (b : Bool) → test x ≡ b → count_by test (y ∷ ys) ≡ count_by (first_passes test) ((x ∷ xs) ∷ rest)
+      by_test later true passes = omega (arith, count_yes test y ys (ap test begin.0 ∙ passes), count_yes (first_passes test) (x ∷ xs) rest passes, later)
+      by_test later false fails = omega (arith, count_no test y ys (ap test begin.0 ∙ fails), count_no (first_passes test) (x ∷ xs) rest fails, later)
 
   count_both : (xs ys : List X) → count_by test (xs ++ ys) ≡ count_by test xs + count_by test ys
   count_both xs ys = sum_by-append (λ (y : X). cond (test y) 1 0) xs ys
@@ -127,6 +155,20 @@ module _ {X : Type 0} (test : X → Bool) where
       by_test rest true passes = omega (arith, count_yes test x xs passes)
       by_test rest false fails = omega (arith, count_no test x xs fails)
 
+  begun_bound : (chunks : List (List X)) → count_by (first_passes test) chunks ≤ length chunks
+  begun_bound [] = omega arith
+  begun_bound (x ∷ rest) = by_test (begun_bound rest) (first_passes test x) refl
+    where
+      by_test : count_by (first_passes test) rest ≤ length rest → (b : Bool) → first_passes test x ≡ b → count_by (first_passes test) (x ∷ rest) ≤ suc (length rest)
+      by_test later true passes = omega (arith, count_yes (first_passes test) x rest passes)
+      by_test later false fails = omega (arith, count_no (first_passes test) x rest fails)
+
+  -- as many first items pass as chunks that begin so, but for the item beside an only chunk that is empty
+  count_firsts : (firsts : List X) (chunks : List (List X)) → IsShaped chunks → AreFirsts firsts chunks → count_by test firsts - 1 ≡ count_by (first_passes test) chunks - 1
+  count_firsts firsts [] shaped are = omega (arith, are.number, count_bound firsts)
+  count_firsts firsts (x ∷ []) shaped are = omega (arith, are.number, count_bound firsts, begun_bound (x ∷ []))
+  count_firsts firsts (x ∷ (y ∷ rest)) shaped are = ap (λ (n : ℕ). n - 1) (count_each firsts (x ∷ (y ∷ rest)) (have_items (x ∷ (y ∷ rest)) shaped (omega arith)) are.number are.begin)
+
   last_begins : (chunks : List (List X)) (c : ℕ) → IsCut (first_passes test) chunks (suc c) → first_passes test (chunk_at chunks c) ≡ true
   last_begins [] c is_cut = absurd (omega (arith, is_cut))
   last_begins (x ∷ rest) zero is_cut = is_cut.0
@@ -154,8 +196,9 @@ module _ {X : Type 0} (test : X → Bool) where
       absurd (omega arith)
 
   -- the spot of a cut
-  pub cut_is : (chunks : List (List X)) → IsShaped chunks → IsParted test (joined chunks) → (c offset : ℕ) (it : List X) → c ≡ count_by (first_passes test) chunks - 1 → c < length chunks → it ≡ chunk_at chunks c → offset ≡ count_by test it → IsCutAt test chunks c offset
-  cut_is chunks shaped parted c offset it there inside it_is counted =
+  pub cut_is : (chunks : List (List X)) (firsts : List X) → IsShaped chunks → AreFirsts firsts chunks → IsParted test (joined chunks) → (c offset : ℕ) (it : List X) → c ≡ count_by test firsts - 1 → c < length chunks → it ≡ chunk_at chunks c → offset ≡ count_by test it → IsCutAt test chunks c offset
+  cut_is chunks firsts shaped are parted c offset it is_there inside it_is counted =
+      let there : c ≡ count_by (first_passes test) chunks - 1 = is_there ∙ count_firsts firsts chunks shaped are in
       let falls = falls_from_parted test (joined chunks) parted in
       let count : offset ≡ count_by test (chunk_at chunks c) = counted ∙ ap (count_by test) it_is in
       let cut = cut_at_count (first_passes test) chunks (falls_chunks chunks shaped falls) in

@@ -16,42 +16,55 @@ chunk_at chunks number = get_or chunks number []
 abbrev pub start : {X : Type 0} → List (List X) → ℕ → ℕ
 start chunks number = length (joined (take number chunks))
 
--- the places of the items, from the chunk of a number on: 512 numbers are kept for each chunk
+-- the places of the items, from the chunk of a number on: 256 numbers are kept for each chunk
 abbrev pub places_from : {X : Type 0} → ℕ → List (List X) → List ℕ
 places_from number [] = []
-places_from number (xs ∷ rest) = range_with_len (512 * number) (length xs) ++ places_from (number + 1) rest
+places_from number (xs ∷ rest) = range_with_len (256 * number) (length xs) ++ places_from (number + 1) rest
 
 -- what a tree of these chunks in use and these spare ones holds
 abbrev pub held : {X : Type 0} → List (List X) → List (List X) → Contents X
 held chunks pool = record {
   items = joined chunks;
   places = places_from 0 chunks;
-  spare = 256 * (length chunks + length pool) - length (joined chunks);
+  spare = 128 * (length chunks + length pool) - length (joined chunks);
 }
 
--- no chunk has more than 512 items, and where there are two each has 256
+-- no chunk has more than 256 items, and where there are two each has 128
 pub record IsShaped {X : Type 0} (chunks : List (List X)) : Type 0 where
-  pub fits : AllByRecursion (λ xs. length xs ≤ 512) chunks
-  pub half : 1 < length chunks → AllByRecursion (λ xs. 256 ≤ length xs) chunks
+  pub fits : AllByRecursion (λ xs. length xs ≤ 256) chunks
+  pub half : 1 < length chunks → AllByRecursion (λ xs. 128 ≤ length xs) chunks
 
 -- the chunks of the pool are empty
 abbrev pub IsSpent : {X : Type 0} → List (List X) → Type 0
 IsSpent pool = AllByRecursion (λ xs. xs ≡ []) pool
 
--- a tree's chunks, its pool, how many items it counts, and how many chunks fit in each of the two lists
-pub record IsTree {X : Type 0} (chunks pool : List (List X)) (count capacity pool_capacity : ℕ) : Type 0 where
+-- the chunk begins with the item, or is empty
+abbrev pub MayBeginWith : {X : Type 0} → X → List X → Type 0
+MayBeginWith first [] = Unit {0}
+MayBeginWith first (x ∷ xs) = first ≡ x
+
+-- each chunk with the item beside it
+abbrev pub EachBeginsWith : {X : Type 0} → List X → List (List X) → Type 0
+EachBeginsWith [] chunks = Unit {0}
+EachBeginsWith (first ∷ firsts) [] = Unit {0}
+EachBeginsWith (first ∷ firsts) (xs ∷ rest) = MayBeginWith first xs × EachBeginsWith firsts rest
+
+-- the first items of the chunks, and any item for an empty chunk
+pub record AreFirsts {X : Type 0} (firsts : List X) (chunks : List (List X)) : Type 0 where
+  pub number : length firsts ≡ length chunks
+  pub begin : EachBeginsWith firsts chunks
+
+-- a tree's chunks, their first items, its pool, how many items it counts, and how many chunks fit in each list
+pub record IsTree {X : Type 0} (chunks : List (List X)) (firsts : List X) (pool : List (List X)) (count capacity firsts_capacity pool_capacity : ℕ) : Type 0 where
   pub shaped : IsShaped chunks
+  pub begun : AreFirsts firsts chunks
   pub spent : IsSpent pool
   pub counted : count ≡ length (joined chunks)
-  pub covered : count ≤ 256 * (length chunks + length pool)
+  pub covered : count ≤ 128 * (length chunks + length pool)
   pub few : length chunks + length pool ≤ 4294967296
   pub room : length chunks + length pool ≤ capacity
+  pub firsts_room : length chunks + length pool ≤ firsts_capacity
   pub pool_room : length chunks + length pool ≤ pool_capacity
-
--- whether the first item of a chunk passes
-abbrev pub first_passes : {X : Type 0} → (X → Bool) → List X → Bool
-first_passes test [] = false
-first_passes test (x ∷ xs) = test x
 
 -- the spot behind all that pass, in the last chunk that has one of them
 pub record IsCutAt {X : Type 0} (test : X → Bool) (chunks : List (List X)) (chunk offset : ℕ) : Type 0 where
@@ -60,11 +73,6 @@ pub record IsCutAt {X : Type 0} (test : X → Bool) (chunks : List (List X)) (ch
   pub reached : 0 < chunk → chunk < length chunks
   pub within : offset ≤ length (chunk_at chunks chunk)
   pub first : offset ≡ 0 → chunk ≡ 0
-
--- an item stands at the spot
-pub record IsItem {X : Type 0} (chunks : List (List X)) (chunk offset : ℕ) : Type 0 where
-  pub inside : chunk < length chunks
-  pub within : offset < length (chunk_at chunks chunk)
 
 -- each chunk but one has half
 abbrev pub AllBut : {X : Type 0} → (X → Type 0) → List X → ℕ → Type 0
@@ -75,16 +83,16 @@ AllBut P (x ∷ rest) (suc number) = P x × AllBut P rest number
 -- as IsShaped, but that one chunk may want an item for its half
 pub record IsNearlyShaped {X : Type 0} (chunks : List (List X)) (short : ℕ) : Type 0 where
   pub inside : short < length chunks
-  pub fits : AllByRecursion (λ xs. length xs ≤ 512) chunks
-  pub others : 1 < length chunks → AllBut (λ xs. 256 ≤ length xs) chunks short
-  pub nearly : 1 < length chunks → 255 ≤ length (chunk_at chunks short)
+  pub fits : AllByRecursion (λ xs. length xs ≤ 256) chunks
+  pub others : 1 < length chunks → AllBut (λ xs. 128 ≤ length xs) chunks short
+  pub nearly : 1 < length chunks → 127 ≤ length (chunk_at chunks short)
 
 -- a new item fits at the spot, which has so many before it
 pub record IsFree {X : Type 0} (chunks : List (List X)) (chunk offset before : ℕ) : Type 0 where
   pub counted : start chunks chunk + offset ≡ before
   pub inside : chunk < length chunks
   pub within : offset ≤ length (chunk_at chunks chunk)
-  pub room : length (chunk_at chunks chunk) < 512
+  pub room : length (chunk_at chunks chunk) < 256
 
 -- what is left of a walk: of the chunk where it stands, and then the chunks that it comes to
 abbrev pub sequel : {X : Type 0} → Bool → List X → List (List X) → List X

@@ -1,18 +1,17 @@
-//! One chunk of a tree's items: as many as 512, in memory that is there from the start.
+//! One chunk of a tree's items: as many as 256, in memory that is there from the start.
 ghost use Rattle.std.specs.Prelude.{◌≡◌, ◌+◌, ◌<◌, ◌≤◌, [], ◌++◌, length, take, drop, remove, IfOk, slice_get, Some, count_by};
 ghost use Rattle.std.specs.List.{insert};
 ghost use Rattle.index_tree.specs.Parts.{IsParted};
-ghost use Rattle.index_tree.specs.Chunked.{first_passes};
 
 use crate::Cut;
 use std::alloc::{AllocError, Global};
 use std::marker::Model;
 
 /// How many items a chunk has room for.
-pub(crate) const FULL: usize = 512;
+pub(crate) const FULL: usize = 256;
 
 /// How many each chunk has where there are two.
-pub(crate) const HALF: usize = 256;
+pub(crate) const HALF: usize = 128;
 
 /// Items that stand together.
 #[derive(Drop)]
@@ -30,7 +29,7 @@ impl<T> Model for Chunk<T> {
 
     ghost view = { λ chunk. chunk.items.items };
 
-    ghost invariant = { λ chunk. 512 ≤ vec_capacity chunk.items };
+    ghost invariant = { λ chunk. 256 ≤ vec_capacity chunk.items };
 }
 
 impl<T: Copy> Chunk<T> {
@@ -54,16 +53,6 @@ impl<T: Copy> Chunk<T> {
         self.items.as_slice()
     }
 
-    /// Whether there is a first item and it is before the cut.
-    pub(crate) fn begins_before<C: Cut<T>>(&self, cut: &C) -> bool
-        ensures { result ≡ first_passes (C.before cut.now) self.now }
-    {
-        match self.items.first() {
-            None => false,
-            Some(item) => cut.is_before(item),
-        }
-    }
-
     /// How many items stand before the cut.
     pub(crate) fn count_before<C: Cut<T>>(&self, cut: &C) -> usize
         requires { IsParted (C.before cut.now) self.now }
@@ -79,7 +68,7 @@ impl<T: Copy> Chunk<T> {
     /// Puts an item in front of the one at the offset.
     pub(crate) fn insert(&mut self, offset: usize, item: T)
         requires within { offset ≤ length self.old }
-        requires room { length self.old < 512 }
+        requires room { length self.old < 256 }
         ensures { self.new ≡ insert self.old offset item }
     {
         match self.items.insert(offset, item) {
@@ -99,7 +88,7 @@ impl<T: Copy> Chunk<T> {
 
     /// Takes over all items of another chunk, behind its own.
     pub(crate) fn append(&mut self, other: &mut Chunk<T>)
-        requires { length self.old + length other.old ≤ 512 }
+        requires { length self.old + length other.old ≤ 256 }
         ensures items { self.new ≡ self.old ++ other.old }
         ensures emptied { other.new ≡ [] }
     {
@@ -111,11 +100,11 @@ impl<T: Copy> Chunk<T> {
 
     /// Hands the items from the half on to an empty chunk.
     pub(crate) fn split_into(&mut self, upper: &mut Chunk<T>)
-        requires some { 256 ≤ length self.old }
-        requires fits { length self.old ≤ 512 }
+        requires some { 128 ≤ length self.old }
+        requires fits { length self.old ≤ 256 }
         requires empty { upper.old ≡ [] }
-        ensures lower { self.new ≡ take 256 self.old }
-        ensures upper { upper.new ≡ drop 256 self.old }
+        ensures lower { self.new ≡ take 128 self.old }
+        ensures upper { upper.new ≡ drop 128 self.old }
     {
         match upper.items.extend_from_slice(&self.items[HALF..]) {
             Ok(()) => {}

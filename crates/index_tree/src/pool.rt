@@ -22,7 +22,8 @@ pub(crate) fn add_spare<T: Copy>(
     ensures added { OnOk result (vec_len pool.new ≡ vec_len pool.old + more) }
     ensures few { OnOk result (vec_len chunks.new + vec_len pool.new ≤ 4294967296) }
     ensures room { OnOk result (vec_len chunks.new + vec_len pool.new ≤ vec_capacity chunks.new) }
-    ensures pool_room { OnOk result (vec_len chunks.new + vec_len pool.new ≤ vec_capacity pool.new) }
+    ensures pool_room { OnOk result
+        (vec_len chunks.new + vec_len pool.new ≤ vec_capacity pool.new) }
 
     // Where the memory is wanting only the room may have grown.
     ensures refused { OnErr result (pool.new.items ≡ pool.old.items) }

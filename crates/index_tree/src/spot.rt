@@ -16,8 +16,8 @@ pub(crate) struct Spot {
 impl Spot {
     /// The spot that a place names.
     pub(crate) fn of(place: Place) -> Spot
-        ensures chunk { result.chunk ≡ place / 512 }
-        ensures offset { result.offset ≡ place % 512 }
+        ensures chunk { result.chunk ≡ place / 256 }
+        ensures offset { result.offset ≡ place % 256 }
     {
         Spot {
             chunk: place.number() / FULL,
@@ -28,15 +28,15 @@ impl Spot {
     // The place of an item here.
     fn place(self) -> Place
         requires few { self.chunk ≤ 4294967296 }
-        requires within { self.offset < 512 }
-        ensures { result ≡ 512 * self.chunk + self.offset }
+        requires within { self.offset < 256 }
+        ensures { result ≡ 256 * self.chunk + self.offset }
     {
         Place::of(FULL * self.chunk + self.offset)
     }
 
     /// Right behind an item here.
     pub(crate) fn behind(self) -> Spot
-        requires { self.offset < 512 }
+        requires { self.offset < 256 }
         ensures chunk { result.chunk ≡ self.chunk }
         ensures offset { result.offset ≡ self.offset + 1 }
     {
@@ -49,8 +49,10 @@ impl Spot {
     /// Where the spot is once its chunk is split.
     pub(crate) fn beside_split(self) -> Spot
         requires { self.chunk ≤ 4294967296 }
-        ensures chunk { result.chunk ≡ (if nat_lt 256 self.offset then self.chunk + 1 else self.chunk) }
-        ensures offset { result.offset ≡ (if nat_lt 256 self.offset then self.offset - 256 else self.offset) }
+        ensures chunk { result.chunk
+            ≡ (if nat_lt 128 self.offset then self.chunk + 1 else self.chunk) }
+        ensures offset { result.offset
+            ≡ (if nat_lt 128 self.offset then self.offset - 128 else self.offset) }
     {
         if HALF < self.offset {
             Spot {

@@ -1,10 +1,13 @@
-//! A tree of items, as chunks of them in the order in which the inserts placed them. A look-up halves the list of
-//! chunks and then one chunk; an insert and a removal move the items of one chunk, and seldom those of its neighbour.
+//! A tree of items, as chunks of them in the order in which the inserts placed them. A look-up
+//! halves the list of the chunks' first items and then one chunk. An insert and a removal move
+//! items of one chunk, and seldom those of a neighbour. Five things always hold:
 //!
-//! 1. `chunks` are in use, none has more than 512 items, and where there are two each has 256.
-//! 2. `pool` are empty, so that an insert takes its new chunk from there.
-//! 3. There are not more items than 256 for each chunk of the two lists. So where a chunk is full the pool has one.
-//! 4. Either list has room for all chunks, so that none has to grow when a chunk goes from one to the other.
+//! 1. `chunks` are in use: none has more than 256 items, and where there are two each has 128.
+//! 2. `firsts` has an item for each of them, which is the first one of a chunk that has any.
+//! 3. The chunks of `pool` are empty, and an insert takes a new chunk from there.
+//! 4. There are at most 128 items for each chunk of the two lists, so where a chunk is full the
+//!    pool has one.
+//! 5. Each of the three has room for all chunks, so none grows when a chunk goes to another list.
 ghost use Rattle.std.specs.Prelude.{◌≡◌, ℕ, ◌+◌, ◌*◌, ◌-◌, ◌<◌, ◌≤◌, [], length, OnOk, OnErr, IsOk, IfSome, remove, not, slice_get, filter, reverse, vec_len, vec_capacity};
 ghost use Rattle.std.specs.List.{insert};
 ghost use Rattle.index_tree.specs.Contents.{IsAt, IsInside, Finds, one_after, one_before};
@@ -13,6 +16,7 @@ ghost use Rattle.index_tree.specs.Chunked.{joined, chunk_at, start, held, IsTree
 
 use crate::chunk::{Chunk, HALF};
 use crate::chunks::{find, make_room};
+use crate::firsts::{note_insert, note_removal};
 use crate::pool::add_spare;
 use crate::shifts::settle;
 use crate::spot::Spot;
@@ -24,6 +28,7 @@ use std::marker::Model;
 #[derive(Drop)]
 pub struct Tree<T> {
     chunks: Vec<Chunk<T>>,
+    firsts: Vec<T>,
     pool: Vec<Chunk<T>>,
     count: usize,
 }
@@ -39,8 +44,8 @@ impl<T> Model for Tree<T> {
 
     ghost view = { λ tree. held tree.chunks.items tree.pool.items };
 
-    ghost invariant = { λ tree. IsTree tree.chunks.items tree.pool.items tree.count
-        (vec_capacity tree.chunks) (vec_capacity tree.pool) };
+    ghost invariant = { λ tree. IsTree tree.chunks.items tree.firsts.items tree.pool.items
+        tree.count (vec_capacity tree.chunks) (vec_capacity tree.firsts) (vec_capacity tree.pool) };
 }
 
 impl<T: Copy> Tree<T> {
@@ -51,6 +56,7 @@ impl<T: Copy> Tree<T> {
     {
         Tree {
             chunks: Vec::new(alloc),
+            firsts: Vec::new(alloc),
             pool: Vec::new(alloc),
             count: 0,
         }
@@ -71,11 +77,9 @@ impl<T: Copy> Tree<T> {
         if wanted <= spare {
             return Ok(());
         }
-        add_spare(
-            &mut self.chunks,
-            &mut self.pool,
-            (wanted - spare).div_ceil(HALF),
-        )
+        let more = (wanted - spare).div_ceil(HALF);
+        self.firsts.reserve(self.pool.len() + more)?;
+        add_spare(&mut self.chunks, &mut self.pool, more)
     }
 
     /// Puts an item at the cut. It takes no memory.
@@ -85,9 +89,16 @@ impl<T: Copy> Tree<T> {
         ensures items { self.new.items ≡ put_between (C.before cut.now) item self.old.items }
         ensures spare { self.new.spare + 1 ≡ self.old.spare }
     {
-        let spot = find(self.chunks.as_slice(), cut);
-        let free = make_room(&mut self.chunks, &mut self.pool, spot);
+        let spot = find(self.chunks.as_slice(), self.firsts.as_slice(), cut);
+        let free = make_room(
+            &mut self.chunks,
+            &mut self.firsts,
+            &mut self.pool,
+            spot,
+            item,
+        );
         self.chunks[free.chunk].insert(free.offset, item);
+        note_insert(&mut self.firsts, free, item);
         self.count += 1;
     }
 
@@ -102,7 +113,13 @@ impl<T: Copy> Tree<T> {
     {
         let spot = Spot::of(place);
         let item = self.chunks[spot.chunk].remove(spot.offset);
-        settle(&mut self.chunks, &mut self.pool, spot.chunk);
+        note_removal(&mut self.firsts, &self.chunks[spot.chunk], spot);
+        settle(
+            &mut self.chunks,
+            &mut self.firsts,
+            &mut self.pool,
+            spot.chunk,
+        );
         self.count -= 1;
         item
     }
@@ -121,7 +138,7 @@ impl<T: Copy> Tree<T> {
             (first_place (λ item. not (C.before cut.now item)) self.now.items) result }
         ensures inside { IfSome result (IsInside self.now) }
     {
-        let spot = find(self.chunks.as_slice(), cut);
+        let spot = find(self.chunks.as_slice(), self.firsts.as_slice(), cut);
         spot.first_from(self.chunks.as_slice())
     }
 
@@ -131,7 +148,7 @@ impl<T: Copy> Tree<T> {
         ensures last { Finds self.now (last_place (C.before cut.now) self.now.items) result }
         ensures inside { IfSome result (IsInside self.now) }
     {
-        let spot = find(self.chunks.as_slice(), cut);
+        let spot = find(self.chunks.as_slice(), self.firsts.as_slice(), cut);
         spot.last_until(self.chunks.as_slice())
     }
 
@@ -161,7 +178,7 @@ impl<T: Copy> Tree<T> {
         requires parted { IsParted (C.before cut.now) self.now.items }
         ensures { result ≡ filter (λ item. not (C.before cut.now item)) self.now.items }
     {
-        let spot = find(self.chunks.as_slice(), cut);
+        let spot = find(self.chunks.as_slice(), self.firsts.as_slice(), cut);
         Walk::up(self.chunks.as_slice(), spot)
     }
 
@@ -170,7 +187,7 @@ impl<T: Copy> Tree<T> {
         requires parted { IsParted (C.before cut.now) self.now.items }
         ensures { result ≡ reverse (filter (C.before cut.now) self.now.items) }
     {
-        let spot = find(self.chunks.as_slice(), cut);
+        let spot = find(self.chunks.as_slice(), self.firsts.as_slice(), cut);
         Walk::down(self.chunks.as_slice(), spot)
     }
 

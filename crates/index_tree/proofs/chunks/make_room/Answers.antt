@@ -12,6 +12,9 @@ split-requires-clause-some g c =
 pub split-requires-clause-room : goal.split-requires-clause-room
 split-requires-clause-room g c = let some = split-requires-clause-some g c in omega arith
 
+pub split-requires-clause-firsts_room : goal.split-requires-clause-firsts_room
+split-requires-clause-firsts_room g c = let some = split-requires-clause-some g c in omega arith
+
 pub beside_split-requires : goal.beside_split-requires
 beside_split-requires g c = let inside : c.args.spot.chunk < vec_len c.args.chunks.now = search rules in omega arith
 

@@ -9,5 +9,5 @@ returns g c =
     let pool = c.self.inside.pool.items in
     let parted = rw (← c.self.view_is) at c.requires.parted in
     let cut = rw c.as_slice.ensures.value at c.find-spot.ensures in
-    let walked = rw c.as_slice-2.ensures.value at c.down.ensures in
+    let walked = rw c.as_slice-3.ensures.value at c.down.ensures in
     rw (← c.self.view_is) (walked ∙ walked_down chunks pool test parted _ _ cut)

@@ -9,7 +9,7 @@ returns-clause-first g c =
     let pool = c.self.inside.pool.items in
     let parted = rw (← c.self.view_is) at c.requires.parted in
     let cut = rw c.as_slice.ensures.value at c.find-spot.ensures in
-    let found = rw c.as_slice-2.ensures.value at (c.first_from.ensures pool) in
+    let found = rw c.as_slice-3.ensures.value at (c.first_from.ensures pool) in
     rw (← c.self.view_is) (found_behind chunks pool test parted _ _ cut c.first_from.result found)
 
 pub returns-clause-inside : goal.returns-clause-inside

@@ -9,7 +9,7 @@ returns-clause-last g c =
     let pool = c.self.inside.pool.items in
     let parted = rw (← c.self.view_is) at c.requires.parted in
     let cut = rw c.as_slice.ensures.value at c.find-spot.ensures in
-    let found = rw c.as_slice-2.ensures.value at (c.last_until.ensures pool) in
+    let found = rw c.as_slice-3.ensures.value at (c.last_until.ensures pool) in
     rw (← c.self.view_is) (found_before chunks pool test parted _ _ cut c.last_until.result found)
 
 pub returns-clause-inside : goal.returns-clause-inside

@@ -1,5 +1,7 @@
-use Rattle.std.proofs.Common.{◌<◌, length, ap, ◌∙◌, arith}
-use Rattle.index_tree.specs.Chunked.{chunk_at}
+use Rattle.std.proofs.Common.{◌<◌, List, length, remove, set, ap, subst, ◌∙◌, arith}
+use Rattle.std.proofs.lemmas.List.{length-set}
+use Rattle.index_tree.specs.Chunked.{chunk_at, AreFirsts}
+use Rattle.index_tree.proofs.Beginnings.{read_set}
 use Rattle.index_tree.proofs.Changed.{removed_at}
 use Rattle.index_tree.proofs.Places.{spot_in}
 use Rattle.index_tree.proofs.Rooms.{chunk_read}
@@ -27,6 +29,33 @@ settle-requires-clause-nearly g c =
     let spot = spot_in c.args.self.now chunks c.self.inside.pool.items c.self.view_is c.self.invariant.shaped c.args.place c.requires.0 c.requires.1 in
     (removed_at chunks c.args.place _ _ _ _ _ _ c.self.invariant.shaped spot c.of-spot.ensures.chunk c.of-spot.ensures.offset c.index_mut.ensures.value c.remove-item.ensures.item c.remove-item.ensures.items).nearly
 
+pub index-requires : goal.index-requires
+index-requires g c =
+    let chunks = c.self.inside.chunks.items in
+    let spot = spot_in c.args.self.now chunks c.self.inside.pool.items c.self.view_is c.self.invariant.shaped c.args.place c.requires.0 c.requires.1 in
+    let chunk = c.of-spot.ensures.chunk in
+    let inside : c.of-spot.result.chunk < length chunks = omega (arith, spot.inside) in
+    omega (arith, length-set chunks c.of-spot.result.chunk c.remove-item.new.self)
+
+pub note_removal-requires : goal.note_removal-requires
+note_removal-requires g c =
+    let chunks = c.self.inside.chunks.items in
+    let spot = spot_in c.args.self.now chunks c.self.inside.pool.items c.self.view_is c.self.invariant.shaped c.args.place c.requires.0 c.requires.1 in
+    let chunk = c.of-spot.ensures.chunk in
+    let inside : c.of-spot.result.chunk < length chunks = omega (arith, spot.inside) in
+    omega (arith, c.self.invariant.begun.number)
+
+pub settle-requires-clause-firsts : goal.settle-requires-clause-firsts
+settle-requires-clause-firsts g c =
+    let chunks = c.self.inside.chunks.items in
+    let spot = spot_in c.args.self.now chunks c.self.inside.pool.items c.self.view_is c.self.invariant.shaped c.args.place c.requires.0 c.requires.1 in
+    let chunk = c.of-spot.ensures.chunk in
+    let inside : c.of-spot.result.chunk < length chunks = omega (arith, spot.inside) in
+    let same = read_set chunks c.of-spot.result.chunk c.remove-item.new.self c.index.result.now inside c.index.ensures in
+    let there = chunk_read chunks c.of-spot.result.chunk c.index_mut.result.now inside c.index_mut.ensures.value in
+    let is = same ∙ c.remove-item.ensures.items ∙ ap (λ (xs : List g.row.T.Denot). remove xs c.of-spot.result.offset) there in
+    subst (λ (xs : List g.row.T.Denot). AreFirsts c.note_removal.new.firsts.items (set chunks c.of-spot.result.chunk xs)) same (c.note_removal.ensures.firsts chunks c.self.invariant.begun is)
+
 pub invariant_of-self : goal.invariant_of-self
 invariant_of-self g c =
     let chunks = c.self.inside.chunks.items in
@@ -36,11 +65,13 @@ invariant_of-self g c =
     let same = ap length c.settle.ensures.items in
     record {
       shaped = c.settle.ensures.shaped;
+      begun = c.settle.ensures.firsts;
       spent = c.settle.ensures.spent;
       counted = omega (arith, less.count);
       covered = omega (arith, less.count, less.size);
       few = omega (arith, less.size);
       room = omega (arith, less.size);
+      firsts_room = omega (arith, less.size);
       pool_room = omega (arith, less.size);
     }
 
