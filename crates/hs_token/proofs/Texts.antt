@@ -1,12 +1,13 @@
 -- A text and its spelling.
-use Rattle.std.proofs.Common.{◌≡◌, ◌≢◌, ℕ, suc, ◌+◌, ◌-◌, ◌<◌, ◌≤◌, Bool, true, false, cond, eqb, leb, ltb, List, [], ◌∷◌, ◌++◌, refl, arith, inl, inr, ◌⊎◌, length, Option, Some, None, is_some}
-use Rattle.std.proofs.lemmas.Bool.{leb-true, ltb-true, and_parts, and_right, ne_eqb, cases_lt, false_from_ne_true}
+use Rattle.std.proofs.Common.{◌≡◌, ◌≢◌, ℕ, suc, ◌+◌, ◌-◌, ◌<◌, ◌≤◌, Bool, true, false, cond, eqb, leb, ltb, List, [], ◌∷◌, ◌++◌, refl, ap, arith, inl, inr, ◌⊎◌, length, Option, Some, None, is_some}
+use Rattle.std.proofs.lemmas.Bool.{leb-true, ltb-true, and_parts, and_right, ne_eqb, cases_lt, lt-ltb, le-ltb, false_from_ne_true}
 use Rattle.std.specs.List.{AllByRecursion}
 use Rattle.memchr.specs.Find.{Passes, is_byte, IsFirstByte}
 use Rattle.hs_token.specs.declared.tokens.Token.{Token}
 use Rattle.hs_token.specs.declared.tokens.Token.TheVariants.{Null, Text}
 use Rattle.hs_token.specs.Spelling.{text_spelled, token_spelled, IsToken}
 use Rattle.hs_token.specs.Reading.{is_second, next_byte, text_of, is_null, token_of}
+use Rattle.hs_token.specs.Steps.{escapes_in}
 use Rattle.hs_token.proofs.Cases.{plain, escaped}
 
 abbrev pub IsByteList : List ℕ → Type 0
@@ -132,3 +133,29 @@ no_escape (b ∷ bs) none = (false_from_ne_true (eqb b 1) (none 0 (omega arith))
 pub plain_since : (field : List ℕ) (first : Option ℕ) → IsFirstByte (is_byte 1) field first → is_some first ≡ false → text_of false field ≡ field
 plain_since field None nowhere e = text_plain field (no_escape field (λ k lt. nowhere k (omega arith) lt))
 plain_since field (Some k) found e = absurd (let h : true ≡ false = e in cc)
+
+-- how much longer a spelling is than its text
+pub escapes_le : (text : List ℕ) → escapes_in text ≤ length text
+escapes_le [] = omega arith
+escapes_le (b ∷ bs) =
+    elim (cases_lt b 16) [
+      | inl lt ↦ rw (lt-ltb b 16 lt) (omega (arith, escapes_le bs))
+      | inr le ↦ rw (le-ltb b 16 le) (omega (arith, escapes_le bs))
+    ]
+
+pub length-text_spelled : (text : List ℕ) → length (text_spelled text) ≡ length text + escapes_in text
+length-text_spelled [] = refl
+length-text_spelled (b ∷ bs) =
+    elim (cases_lt b 16) [
+      | inl lt ↦ rw (lt-ltb b 16 lt, escaped b lt) (omega (arith, length-text_spelled bs))
+      | inr le ↦ rw (le-ltb b 16 le, plain b le) (omega (arith, length-text_spelled bs))
+    ]
+
+-- without a byte below 0x10 a text is its spelling
+pub spelled_plain : (text : List ℕ) → escapes_in text ≡ 0 → text_spelled text ≡ text
+spelled_plain [] none = refl
+spelled_plain (b ∷ bs) none =
+    elim (cases_lt b 16) [
+      | inl lt ↦ absurd (let some = rw (lt-ltb b 16 lt) at none in omega (arith, some))
+      | inr le ↦ let rest = rw (le-ltb b 16 le) at none in rw (plain b le) (ap (λ (l : List ℕ). b ∷ l) (spelled_plain bs rest))
+    ]

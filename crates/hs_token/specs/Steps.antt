@@ -1,6 +1,5 @@
 -- What the steps of reading and writing say of bytes. No public clause cites these.
-use Rattle.std.specs.Prelude.{◌≡◌, ℕ, ◌+◌, ◌<◌, ◌≤◌, List, ◌∷◌, ◌++◌, length, take, drop, slice_index, slice_range}
-use Rattle.hs_token.specs.Spelling.{text_spelled}
+use Rattle.std.specs.Prelude.{◌≡◌, ℕ, ◌+◌, ◌<◌, ◌≤◌, List, [], ◌∷◌, ◌++◌, length, drop, slice_range, nat_lt, if◌then◌else◌}
 use Rattle.hs_token.specs.Reading.{fields_of}
 
 -- The piece that begins at one place of a line ends at the HT at another.
@@ -9,11 +8,10 @@ pub record EndsPiece (line : List ℕ) (start end : ℕ) : Type 0 where
   pub within : end < length line
   pub pieces : fields_of (drop start line) ≡ slice_range line start end ∷ fields_of (drop (end + 1) line)
 
--- The bytes of a text up to this place stand for themselves, and the byte there doesn't.
-pub record EndsPlain (text : List ℕ) (end : ℕ) : Type 0 where
-  pub within : end < length text
-  pub low : slice_index text end < 16
-  pub plain : text_spelled text ≡ take end text ++ text_spelled (drop end text)
+-- How many bytes of a text don't stand for themselves.
+abbrev pub escapes_in : List ℕ → ℕ
+escapes_in [] = 0
+escapes_in (b ∷ bs) = if nat_lt b 16 then escapes_in bs + 1 else escapes_in bs
 
 -- The old bytes stand in front, whatever was appended before memory ran out.
 abbrev pub Extends : List ℕ → List ℕ → Type 0

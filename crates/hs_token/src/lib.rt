@@ -27,6 +27,6 @@ pub use laws::{
 };
 pub use lines::{TokenFault, decode_line};
 pub use numbers::{parse_i64, parse_u32};
-pub use parts::{push_head, push_integer, push_text};
+pub use parts::{push_head, push_integer};
 pub use replies::push_reply;
-pub use tokens::{Token, push_token};
+pub use tokens::{Token, push_text, push_token};

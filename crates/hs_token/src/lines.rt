@@ -156,12 +156,12 @@ fn text(alloc: Global, field: &[u8]) -> Result<Vec<u8>, AllocError>
     for byte in field {
         if is_escaped {
             // The line was checked, so that the byte is from `SHIFT` on.
-            text.push(byte.saturating_sub(SHIFT))?;
+            text.push_reserved(byte.saturating_sub(SHIFT));
             is_escaped = false;
         } else if *byte == ESCAPE {
             is_escaped = true;
         } else {
-            text.push(*byte)?;
+            text.push_reserved(*byte);
         }
     }
     Ok(text)

@@ -4,7 +4,6 @@ ghost use Rattle.std.specs.Fmt.{signed_decimal};
 ghost use Rattle.hs_token.specs.Spelling.{text_spelled, reply_head};
 
 use crate::replies::append_head;
-use crate::tokens::append_text;
 use itoa::Buffer;
 use std::alloc::AllocError;
 
@@ -15,19 +14,6 @@ pub fn push_head(out: &mut Vec<u8>, code: u32, columns: u32) -> Result<(), Alloc
 {
     let len = out.len();
     let pushed = append_head(out, code, columns);
-    if pushed.is_err() {
-        out.truncate(len);
-    }
-    pushed
-}
-
-/// Appends the spelling of a text.
-pub fn push_text(out: &mut Vec<u8>, text: &[u8]) -> Result<(), AllocError>
-    ensures ok { OnOk result (out.new.items ≡ out.old.items ++ text_spelled text.now) }
-    ensures err { OnErr result (out.new.items ≡ out.old.items) }
-{
-    let len = out.len();
-    let pushed = append_text(out, text);
     if pushed.is_err() {
         out.truncate(len);
     }

@@ -3,7 +3,7 @@ ghost use Rattle.std.specs.Prelude.{◌≡◌, ◌∷◌, ◌++◌, OnOk, OnErr,
 ghost use Rattle.hs_token.specs.Spelling.{token_spelled, reply_head, reply_line};
 ghost use Rattle.hs_token.specs.Steps.{Extends};
 
-use crate::tokens::{TAB, Token, append_token};
+use crate::tokens::{TAB, Token, push_token};
 use itoa::Buffer;
 use std::alloc::AllocError;
 
@@ -58,7 +58,7 @@ fn append_behind_tab(out: &mut Vec<u8>, token: &Token) -> Result<(), AllocError>
     ensures err { OnErr result (Extends out.old.items out.new.items) }
 {
     out.push(TAB)?;
-    append_token(out, token)
+    push_token(out, token)
 }
 
 fn append_number(out: &mut Vec<u8>, number: u32) -> Result<(), AllocError>

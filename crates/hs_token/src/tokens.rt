@@ -1,7 +1,7 @@
 //! A token, and how its bytes are written.
-ghost use Rattle.std.specs.Prelude.{◌≡◌, ◌++◌, MatchOption, OnOk, OnErr};
-ghost use Rattle.hs_token.specs.Spelling.{text_spelled, token_spelled};
-ghost use Rattle.hs_token.specs.Steps.{Extends, EndsPlain};
+ghost use Rattle.std.specs.Prelude.{◌≡◌, ◌+◌, ◌≤◌, ◌++◌, length, OnOk, OnErr, vec_len, vec_capacity};
+ghost use Rattle.hs_token.specs.Spelling.{byte_spelled, text_spelled, token_spelled};
+ghost use Rattle.hs_token.specs.Steps.{escapes_in};
 
 use bytes::Bytes;
 use std::alloc::AllocError;
@@ -30,48 +30,53 @@ pub fn push_token(out: &mut Vec<u8>, token: &Token) -> Result<(), AllocError>
     ensures ok { OnOk result (out.new.items ≡ out.old.items ++ token_spelled token.now) }
     ensures err { OnErr result (out.new.items ≡ out.old.items) }
 {
-    let len = out.len();
-    let pushed = append_token(out, token);
-    if pushed.is_err() {
-        out.truncate(len);
-    }
-    pushed
-}
-
-/// Appends the spelling of a token, or a part of it where memory runs out.
-pub(crate) fn append_token(out: &mut Vec<u8>, token: &Token) -> Result<(), AllocError>
-    ensures ok { OnOk result (out.new.items ≡ out.old.items ++ token_spelled token.now) }
-    ensures err { OnErr result (Extends out.old.items out.new.items) }
-{
     match token {
         Token::Null => Ok(out.push(0)?),
-        Token::Text(text) => append_text(out, text.as_slice()),
+        Token::Text(text) => push_text(out, text.as_slice()),
     }
 }
 
-/// Appends the spelling of a text, or a part of it where memory runs out.
-pub(crate) fn append_text(out: &mut Vec<u8>, text: &[u8]) -> Result<(), AllocError>
+/// Appends the spelling of a text.
+pub fn push_text(out: &mut Vec<u8>, text: &[u8]) -> Result<(), AllocError>
     ensures ok { OnOk result (out.new.items ≡ out.old.items ++ text_spelled text.now) }
-    ensures err { OnErr result (Extends out.old.items out.new.items) }
+    ensures err { OnErr result (out.new.items ≡ out.old.items) }
 {
-    let mut rest = text;
-    while let Some(end) = first_escaped(rest) {
-        out.extend_from_slice(&rest[..end])?;
-        out.push(ESCAPE)?;
-        out.push(rest[end] + SHIFT)?;
-        rest = &rest[end + 1..];
+    let escapes = count_escapes(text);
+    if escapes == 0 {
+        return out.extend_from_slice(text);
     }
-    out.extend_from_slice(rest)
+    // All the memory is taken first, so that no part of a text is ever left.
+    out.reserve(text.len() + escapes)?;
+    for byte in text {
+        append_byte(out, *byte);
+    }
+    Ok(())
 }
 
-/// The place of the first byte that doesn't stand for itself.
-fn first_escaped(text: &[u8]) -> Option<usize>
-    ensures { MatchOption result (text_spelled text.now ≡ text.now) (λ end. EndsPlain text.now end) }
+/// How many bytes of a text don't stand for themselves.
+fn count_escapes(text: &[u8]) -> usize
+    ensures { result ≡ escapes_in text.now }
 {
-    for (end, byte) in text.iter().enumerate() {
+    let mut escapes = 0;
+    for byte in text {
         if *byte < PLAIN {
-            return Some(end);
+            escapes += 1;
         }
     }
-    None
+    escapes
+}
+
+/// Appends what stands for a byte, which there is room for.
+fn append_byte(out: &mut Vec<u8>, byte: u8)
+    requires { vec_len out.old + length (byte_spelled byte) ≤ vec_capacity out.old }
+    ensures items { out.new.items ≡ out.old.items ++ byte_spelled byte }
+    ensures len { vec_len out.new ≡ vec_len out.old + length (byte_spelled byte) }
+    ensures capacity { vec_capacity out.new ≡ vec_capacity out.old }
+{
+    if byte < PLAIN {
+        out.push_reserved(ESCAPE);
+        out.push_reserved(byte + SHIFT);
+    } else {
+        out.push_reserved(byte);
+    }
 }
