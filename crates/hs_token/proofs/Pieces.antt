@@ -1,11 +1,11 @@
 -- What stands between the tabs of a line.
-use Rattle.std.proofs.Common.{◌≡◌, ℕ, zero, suc, ◌+◌, ◌-◌, ◌<◌, ◌≤◌, true, false, cond, not, ◌&&◌, eqb, ltb, List, [], ◌∷◌, ◌++◌, length, take, drop, None, refl, sym, ap, subst, ◌∙◌, arith, inl, inr, ◌⊎◌, length-drop}
-use Rattle.std.proofs.lemmas.Bool.{cases_Bool, eqb-true, eqb-false, ltb-false, and_parts, and_cases, not-false, false_from_ne_true}
-use Rattle.std.proofs.lemmas.List.{take_rest, drop-drop}
+use Rattle.std.proofs.Common.{◌≡◌, ℕ, zero, suc, ◌+◌, ◌-◌, ◌<◌, ◌≤◌, Bool, true, false, cond, not, ◌&&◌, ◌||◌, eqb, ltb, List, [], ◌∷◌, ◌++◌, length, take, drop, get_or, None, refl, sym, ap, subst, ◌∙◌, arith, inl, inr, ◌⊎◌, length-drop}
+use Rattle.std.proofs.lemmas.Bool.{cases_Bool, eqb-true, eqb-false, ltb-false, and_parts, and_cases, not-false, false_from_ne_true, ne_eqb}
+use Rattle.std.proofs.lemmas.List.{drop_more, take_rest, drop-drop}
 use Rattle.std.specs.List.{AllByRecursion}
 use Rattle.memchr.specs.Find.{Passes, is_byte, Nowhere, NoneBefore}
 use Rattle.hs_token.specs.Reading.{is_second, is_bad, next_byte, first_bad_from, onto_first, fields_of}
-use Rattle.hs_token.specs.Steps.{EndsPiece}
+use Rattle.hs_token.specs.Steps.{EndsPiece, has_escape}
 use Rattle.hs_token.proofs.Cases.{chosen}
 use Rattle.hs_token.proofs.Places.{none_head}
 use Rattle.hs_token.proofs.Texts.{IsByteList, IsGood, IsPiece, IsField}
@@ -58,6 +58,56 @@ fields_fit (b ∷ bs) fits =
       | inl tab ↦ rw tab (tt, fields_fit bs fits.1)
       | inr byte ↦ rw byte (onto_fit b (fields_of bs) fits.0 (fields_fit bs fits.1))
     ]
+
+-- ---- how many pieces there are
+
+one_more : (b : ℕ) (bs : List ℕ) → eqb b 9 ≡ false → length (fields_of (b ∷ bs)) ≡ length (fields_of bs)
+one_more b bs byte = let is = (pieces bs).is in rw (byte, is) refl
+
+-- a byte more is a piece more if it is a tab
+abbrev pub tabs_of : ℕ → ℕ
+tabs_of b = cond (eqb b 9) 1 0
+
+length-fields : (b : ℕ) (bs : List ℕ) → length (fields_of (b ∷ bs)) ≡ tabs_of b + length (fields_of bs)
+length-fields b bs =
+    elim (cases_Bool (eqb b 9)) [
+      | inl tab ↦ rw tab (omega arith)
+      | inr byte ↦ let none : tabs_of b ≡ 0 = rw byte refl in omega (arith, one_more b bs byte, none)
+    ]
+
+pub fields_some : (bytes : List ℕ) → 1 ≤ length (fields_of bytes)
+fields_some bytes = let is = (pieces bytes).is in rw is (omega arith)
+
+pub fields_le : (bytes : List ℕ) → length (fields_of bytes) ≤ length bytes + 1
+fields_le [] = omega arith
+fields_le (b ∷ bs) =
+    elim (cases_Bool (eqb b 9)) [
+      | inl tab ↦ rw tab (omega (arith, fields_le bs))
+      | inr byte ↦ omega (arith, one_more b bs byte, fields_le bs)
+    ]
+
+-- the count of them, as the code goes over a line
+pub counts_on : (line : List ℕ) (place tokens whole : ℕ) → place < length line → tokens + length (fields_of (drop place line)) ≡ whole → tokens + tabs_of (get_or line place 0) + length (fields_of (drop (place + 1) line)) ≡ whole
+counts_on line place tokens whole lt e =
+    let more = ap (λ (bs : List ℕ). length (fields_of bs)) (drop_more line place 0 lt) in
+    omega (arith, e, more, length-fields (get_or line place 0) (drop (place + 1) line))
+
+or_assoc : (x y z : Bool) → (x || (y || z)) ≡ ((x || y) || z)
+or_assoc true y z = refl
+or_assoc false y z = refl
+
+pub escapes_on : (line : List ℕ) (place : ℕ) (flag whole : Bool) → place < length line → (flag || has_escape (drop place line)) ≡ whole → ((flag || eqb (get_or line place 0) 1) || has_escape (drop (place + 1) line)) ≡ whole
+escapes_on line place flag whole lt e =
+    let more = ap (λ (bs : List ℕ). flag || has_escape bs) (drop_more line place 0 lt) in
+    sym (or_assoc flag (eqb (get_or line place 0) 1) (has_escape (drop (place + 1) line))) ∙ (sym more ∙ e)
+
+-- a byte that stands for itself is neither a tab nor an escape
+pub no_tabs : (b : ℕ) → 16 ≤ b → tabs_of b ≡ 0
+no_tabs b le = rw (ne_eqb b 9 (λ e. omega arith)) refl
+
+pub same_flag : (flag : Bool) (b : ℕ) → 16 ≤ b → (flag || eqb b 1) ≡ flag
+same_flag true b le = refl
+same_flag false b le = ne_eqb b 1 (λ e. omega arith)
 
 -- ---- a line without a bad byte has good pieces
 

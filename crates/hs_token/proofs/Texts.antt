@@ -1,13 +1,13 @@
 -- A text and its spelling.
-use Rattle.std.proofs.Common.{◌≡◌, ◌≢◌, ℕ, suc, ◌+◌, ◌-◌, ◌<◌, ◌≤◌, Bool, true, false, cond, eqb, leb, ltb, List, [], ◌∷◌, ◌++◌, refl, ap, arith, inl, inr, ◌⊎◌, length, Option, Some, None, is_some}
-use Rattle.std.proofs.lemmas.Bool.{leb-true, ltb-true, and_parts, and_right, ne_eqb, cases_lt, lt-ltb, le-ltb, false_from_ne_true}
+use Rattle.std.proofs.Common.{◌≡◌, ◌≢◌, ℕ, zero, suc, ◌+◌, ◌-◌, ◌<◌, ◌≤◌, Bool, true, false, cond, eqb, leb, ltb, List, [], ◌∷◌, ◌++◌, refl, ap, arith, inl, inr, ◌⊎◌, length, take, drop, slice_range, Option, Some, None, is_some}
+use Rattle.std.proofs.lemmas.Bool.{leb-true, ltb-true, and_parts, and_right, or_parts, or_from, ne_eqb, cases_lt, lt-ltb, le-ltb, false_from_ne_true}
 use Rattle.std.specs.List.{AllByRecursion}
 use Rattle.memchr.specs.Find.{Passes, is_byte, IsFirstByte}
 use Rattle.hs_token.specs.declared.tokens.Token.{Token}
 use Rattle.hs_token.specs.declared.tokens.Token.TheVariants.{Null, Text}
 use Rattle.hs_token.specs.Spelling.{text_spelled, token_spelled, IsToken}
 use Rattle.hs_token.specs.Reading.{is_second, next_byte, text_of, is_null, token_of}
-use Rattle.hs_token.specs.Steps.{escapes_in}
+use Rattle.hs_token.specs.Steps.{has_escape, escapes_in}
 use Rattle.hs_token.proofs.Cases.{plain, escaped}
 
 abbrev pub IsByteList : List ℕ → Type 0
@@ -121,13 +121,32 @@ spelled-plain [] rest high = refl
 spelled-plain (b ∷ bs) rest high = rw (plain b high.0, spelled-plain bs rest high.1) refl
 
 -- without an escape a piece is its text
-pub text_plain : (bs : List ℕ) → AllByRecursion (λ b. eqb b 1 ≡ false) bs → text_of false bs ≡ bs
+pub text_plain : (bs : List ℕ) → has_escape bs ≡ false → text_of false bs ≡ bs
 text_plain [] none = refl
-text_plain (b ∷ bs) none = rw (none.0, text_plain bs none.1) refl
+text_plain (b ∷ bs) none =
+    let both = or_parts (eqb b 1) (has_escape bs) none in
+    rw (both.0, text_plain bs both.1) refl
 
-no_escape : (bs : List ℕ) → ((k : ℕ) → k < length bs → ¬ Passes (is_byte 1) bs k) → AllByRecursion (λ b. eqb b 1 ≡ false) bs
-no_escape [] none = tt
-no_escape (b ∷ bs) none = (false_from_ne_true (eqb b 1) (none 0 (omega arith)), no_escape bs (λ k lt. none (suc k) (omega arith)))
+drop_plain : (n : ℕ) (bs : List ℕ) → has_escape bs ≡ false → has_escape (drop n bs) ≡ false
+drop_plain zero bs none = none
+drop_plain (suc n) [] none = refl
+drop_plain (suc n) (b ∷ bs) none = drop_plain n bs (or_parts (eqb b 1) (has_escape bs) none).1
+
+take_plain : (n : ℕ) (bs : List ℕ) → has_escape bs ≡ false → has_escape (take n bs) ≡ false
+take_plain zero bs none = refl
+take_plain (suc n) [] none = refl
+take_plain (suc n) (b ∷ bs) none =
+    let both = or_parts (eqb b 1) (has_escape bs) none in
+    or_from (eqb b 1) (has_escape (take n bs)) both.0 (take_plain n bs both.1)
+
+-- so is each piece of a line without one
+pub piece_plain : (line : List ℕ) (start end : ℕ) → has_escape line ≡ false → text_of false (slice_range line start end) ≡ slice_range line start end
+piece_plain line start end none = text_plain (slice_range line start end) (take_plain (end - start) (drop start line) (drop_plain start line none))
+
+no_escape : (bs : List ℕ) → ((k : ℕ) → k < length bs → ¬ Passes (is_byte 1) bs k) → has_escape bs ≡ false
+no_escape [] none = refl
+no_escape (b ∷ bs) none =
+    or_from (eqb b 1) (has_escape bs) (false_from_ne_true (eqb b 1) (none 0 (omega arith))) (no_escape bs (λ k lt. none (suc k) (omega arith)))
 
 -- the same, as the code looks for one
 pub plain_since : (field : List ℕ) (first : Option ℕ) → IsFirstByte (is_byte 1) field first → is_some first ≡ false → text_of false field ≡ field

@@ -1,14 +1,14 @@
 //! Reading the tokens of a line.
-ghost use Rattle.std.specs.Prelude.{◌≡◌, ◌≢◌, ◌+◌, ◌≤◌, ◌<◌, ◌↔◌, ℕ, List, [], ◌∷◌, length, drop, map, slice_range, slice_index_or, false, IfOk, IsTrue, MatchOption};
+ghost use Rattle.std.specs.Prelude.{◌≡◌, ◌≢◌, ◌+◌, ◌^◌, ◌≤◌, ◌<◌, ◌==◌, ◌||◌, ◌↔◌, ℕ, List, [], ◌∷◌, length, drop, map, slice_range, slice_index_or, false, Some, None, if◌then◌else◌, OnOk, IfOk, IfErr, IsTrue, MatchOption};
 ghost use Rattle.std.specs.List.{AllByRecursion};
 ghost use Rattle.hs_token.specs.declared.tokens.Token.{Token};
 ghost use Rattle.hs_token.specs.Spelling.{line_spelled, IsToken};
 ghost use Rattle.hs_token.specs.Reading.{Gives, is_bad, IsFirstBad, first_bad, fields_of, text_of, is_null, token_of, line_at};
-ghost use Rattle.hs_token.specs.Steps.{EndsPiece};
+ghost use Rattle.hs_token.specs.Steps.{EndsPiece, has_escape};
 
 use crate::tokens::{ESCAPE, PLAIN, SHIFT, TAB, Token};
 use bytes::Bytes;
-use memchr::{memchr, memchr_iter};
+use memchr::memchr;
 use std::alloc::{AllocError, AllocFailed, Global};
 use thiserror::Error;
 
@@ -46,25 +46,64 @@ pub fn decode_line(alloc: Global, line: &Bytes) -> Result<Vec<Token>, TokenFault
     ensures bad { (place : ℕ) → (result ≡ Err (TokenFault.BadToken place)) ↔ IsFirstBad line.now place }
     ensures exact { Gives (λ v. v.items) result (line_at line.now) }
 {
-    if let Some(place) = first_bad(line.as_slice()) {
-        return Err(TokenFault::BadToken(place));
+    match shape_of(line.as_slice()) {
+        Err(place) => Err(TokenFault::BadToken(place)),
+        Ok(shape) => Ok(split(alloc, line, shape)?),
     }
-    Ok(split(alloc, line)?)
 }
 
-/// The place of the first bad byte.
-fn first_bad(line: &[u8]) -> Option<usize>
-    ensures place { result ≡ first_bad line.now }
+/// What the tokens of a line without a bad byte need.
+#[derive(Clone, Copy)]
+struct Shape {
+    /// How many they are.
+    tokens: usize,
+    /// Whether any byte of the line is an `ESCAPE`.
+    has_escape: bool,
+}
+
+/// The shape of a line, or the place of its first bad byte.
+fn shape_of(line: &[u8]) -> Result<Shape, usize>
+    ensures bad { IfErr result (λ place. first_bad line.now ≡ Some place) }
+    ensures good { OnOk result (first_bad line.now ≡ None) }
+    ensures tokens { IfOk result (λ shape. shape.tokens ≡ length (fields_of line.now)) }
+    ensures escape { IfOk result (λ shape. shape.has_escape ≡ has_escape line.now) }
     ensures bytes { AllByRecursion (λ b. b < 256) line.now }
 {
+    let mut shape = Shape {
+        tokens: 1,
+        has_escape: false,
+    };
     let mut before = TAB;
     for (place, byte) in line.iter().enumerate() {
-        if *byte < PLAIN && is_bad(before, *byte, byte_after(line, place)) {
-            return Some(place);
+        // Most bytes stand for themselves, and tell nothing of the shape.
+        if *byte < PLAIN {
+            if is_bad(before, *byte, byte_after(line, place)) {
+                return Err(place);
+            }
+            shape = with_byte(shape, *byte);
         }
         before = *byte;
     }
-    None
+    Ok(shape)
+}
+
+/// The shape of a line with a byte more.
+fn with_byte(shape: Shape, byte: u8) -> Shape
+    requires { shape.tokens + 1 < 2 ^ 64 }
+    ensures tokens { result.tokens ≡ shape.tokens + (if byte == 9 then 1 else 0) }
+    ensures escape { result.has_escape ≡ (shape.has_escape || byte == 1) }
+{
+    match byte {
+        TAB => Shape {
+            tokens: shape.tokens + 1,
+            ..shape
+        },
+        ESCAPE => Shape {
+            has_escape: true,
+            ..shape
+        },
+        _ => shape,
+    }
 }
 
 /// The byte behind a place, and a tab at the line's end, since a token ends at both.
@@ -91,17 +130,19 @@ fn is_bad(before: u8, byte: u8, after: u8) -> bool
 }
 
 /// The tokens of a line without a bad byte.
-fn split(alloc: Global, line: &Bytes) -> Result<Vec<Token>, AllocError>
+fn split(alloc: Global, line: &Bytes, shape: Shape) -> Result<Vec<Token>, AllocError>
+    requires tokens { shape.tokens ≡ length (fields_of line.now) }
+    requires escape { shape.has_escape ≡ has_escape line.now }
     ensures { IfOk result (λ tokens. tokens.items ≡ map token_of (fields_of line.now)) }
 {
     let bytes = line.as_slice();
-    let mut tokens = Vec::with_capacity(alloc, memchr_iter(TAB, bytes).count() + 1)?;
+    let mut tokens = Vec::with_capacity(alloc, shape.tokens)?;
     let mut start = 0;
     while let Some(end) = next_tab(bytes, start) {
-        tokens.push(token(alloc, line, start, end)?)?;
+        tokens.push_reserved(token(alloc, line, start, end, shape.has_escape)?);
         start = end + 1;
     }
-    tokens.push(token(alloc, line, start, bytes.len())?)?;
+    tokens.push_reserved(token(alloc, line, start, bytes.len(), shape.has_escape)?);
     Ok(tokens)
 }
 
@@ -118,26 +159,34 @@ fn next_tab(bytes: &[u8], start: usize) -> Option<usize>
 }
 
 /// The token that stands from `start` to `end` in a line without a bad byte.
-fn token(alloc: Global, line: &Bytes, start: usize, end: usize) -> Result<Token, AllocError>
+fn token(
+    alloc: Global,
+    line: &Bytes,
+    start: usize,
+    end: usize,
+    line_has_escape: bool,
+) -> Result<Token, AllocError>
     requires order { start ≤ end }
     requires within { end ≤ length line.now }
+    requires escape { line_has_escape ≡ has_escape line.now }
     ensures { IfOk result (λ token. token ≡ token_of (slice_range line.now start end)) }
 {
     let field = &line.as_slice()[start..end];
     if is_null(field) {
         return Ok(Token::Null);
     }
-    if is_plain(field) {
+    if is_plain(field, line_has_escape) {
         return Ok(Token::Text(line.slice(start..end)?));
     }
     Ok(Token::Text(Bytes::from_vec(text(alloc, field)?)?))
 }
 
-/// Whether the bytes of a text are those that stand for it.
-fn is_plain(field: &[u8]) -> bool
+/// Whether the bytes of a text are those that stand for it. Only a line that has an escape is looked at for one.
+fn is_plain(field: &[u8], line_has_escape: bool) -> bool
+    requires { line_has_escape ≡ false → text_of false field.now ≡ field.now }
     ensures { IsTrue result → text_of false field.now ≡ field.now }
 {
-    memchr(ESCAPE, field).is_none()
+    !line_has_escape || memchr(ESCAPE, field).is_none()
 }
 
 /// Whether a piece is a 0x00 alone.

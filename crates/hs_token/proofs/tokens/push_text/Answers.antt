@@ -9,7 +9,7 @@ returns-then-escapes-eq0-clause-ok c =
     rw (spelled_plain c.args.text.now none) (search rules)
 
 pub overflow_add-text : goal.overflow_add-text
-overflow_add-text c = omega (arith, c.count_escapes-escapes.ensures, escapes_le c.args.text.now, c.type_inv.text)
+overflow_add-text c = omega (arith, c.count_escapes-escapes.ensures, escapes_le c.args.text.now)
 
 pub loop-byte-init : goal.loop-byte-init
 loop-byte-init c = record {
