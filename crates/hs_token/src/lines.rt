@@ -88,22 +88,17 @@ fn shape_of(line: &[u8]) -> Result<Shape, usize>
 }
 
 /// The shape of a line with a byte more.
-fn with_byte(shape: Shape, byte: u8) -> Shape
+fn with_byte(mut shape: Shape, byte: u8) -> Shape
     requires { shape.tokens + 1 < 2 ^ 64 }
     ensures tokens { result.tokens ≡ shape.tokens + (if byte == 9 then 1 else 0) }
     ensures escape { result.has_escape ≡ (shape.has_escape || byte == 1) }
 {
     match byte {
-        TAB => Shape {
-            tokens: shape.tokens + 1,
-            ..shape
-        },
-        ESCAPE => Shape {
-            has_escape: true,
-            ..shape
-        },
-        _ => shape,
+        TAB => shape.tokens += 1,
+        ESCAPE => shape.has_escape = true,
+        _ => {}
     }
+    shape
 }
 
 /// The byte behind a place, and a tab at the line's end, since a token ends at both.

@@ -1,4 +1,4 @@
-//! The parts of a reply, for callers that hold numbers and bytes and don't make tokens of them.
+//! The parts of a reply that are numbers, for callers that don't make tokens of them.
 ghost use Rattle.std.specs.Prelude.{◌≡◌, ◌++◌, OnOk, OnErr};
 ghost use Rattle.std.specs.Fmt.{signed_decimal};
 ghost use Rattle.hs_token.specs.Spelling.{text_spelled, reply_head};

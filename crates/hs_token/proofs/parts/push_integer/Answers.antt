@@ -1,8 +1,7 @@
-use Rattle.std.proofs.Common.{◌≡◌, ◌++◌, List, ℕ, ℤ, sym, ap, ◌∙◌}
+use Rattle.std.proofs.Common.{◌++◌, List, ℕ, sym, ap, ◌∙◌}
 use Rattle.std.proofs.lemmas.Int.{to_z-of_z}
 use Rattle.std.specs.Int.{w64}
 use Rattle.std.specs.Fmt.{signed_decimal}
-use Rattle.hs_token.specs.Spelling.{text_spelled}
 use Rattle.hs_token.proofs.ReplyLemmas.{spelled_signed}
 use Rattle.hs_token.proofs.parts.push_integer.Goals as goal
 

@@ -1,4 +1,4 @@
-use Rattle.std.proofs.Common.{◌≡◌, ◌∙◌, ◌++◌, List, ℕ, sym, ap, arith, rules, OnOk}
+use Rattle.std.proofs.Common.{◌∙◌, ◌++◌, List, ℕ, sym, ap, arith, rules}
 use Rattle.hs_token.specs.Spelling.{text_spelled}
 use Rattle.hs_token.proofs.Texts.{escapes_le, length-text_spelled, spelled_plain}
 use Rattle.hs_token.proofs.tokens.push_text.Goals as goal
