@@ -9,7 +9,7 @@ ghost use Rattle.hs_token.specs.Steps.{EndsPiece, has_escape};
 use crate::tokens::{ESCAPE, PLAIN, SHIFT, TAB, Token};
 use bytes::Bytes;
 use memchr::memchr;
-use std::alloc::{AllocError, AllocFailed, Global};
+use std::alloc::{AllocError, Global};
 use thiserror::Error;
 
 /// Why a line has no tokens.
