@@ -9,12 +9,12 @@ use Rattle.index_tree.specs.Ordered.{with_item}
 use Rattle.index_tree.proofs.Elements.{each_member}
 use Rattle.index_tree.proofs.InOrder.{all_in_order}
 use Rattle.row_types.specs.declared.values.Value.{Value}
-use Rattle.row_store.specs.Entries.{Entry, entry_cmp}
-use Rattle.find_filter.specs.declared.finds.FindSpec.{FindSpec}
-use Rattle.find_filter.specs.declared.mods.ModSpec.{ModSpec}
-use Rattle.open_index.specs.declared.codes.Code.{Code}
-use Rattle.open_index.specs.Code.{number}
-use Rattle.open_index.specs.declared.requests.InsertSpec.{InsertSpec}
+use Rattle.table_rows.specs.Entries.{Entry, entry_cmp}
+use Rattle.request_types.specs.declared.finds.FindSpec.{FindSpec}
+use Rattle.request_types.specs.declared.mods.ModSpec.{ModSpec}
+use Rattle.request_types.specs.declared.codes.Code.{Code}
+use Rattle.request_types.specs.Code.{number}
+use Rattle.request_types.specs.declared.inserts.InsertSpec.{InsertSpec}
 use Rattle.table_rows.specs.declared.slot_ref.SlotRef.{SlotRef}
 use Rattle.table_rows.specs.declared.undo.Undo.{Undo}
 use Rattle.table_rows.specs.Rows.{State, no_rows, columns_of, indexes_of, entries_of}

@@ -8,10 +8,10 @@ use Rattle.row_types.specs.declared.values.Value.{Value}
 use Rattle.row_types.specs.declared.tables.TableDef.{TableDef}
 use Rattle.row_types.specs.declared.tables.Schema.{Schema}
 use Rattle.row_types.specs.Size.{row_size}
-use Rattle.row_store.specs.Entries.{Entry}
-use Rattle.find_filter.specs.declared.mods.ModSpec.{ModSpec}
-use Rattle.open_index.specs.declared.codes.Code.{Code}
-use Rattle.open_index.specs.declared.codes.Code.TheVariants as refused
+use Rattle.table_rows.specs.Entries.{Entry}
+use Rattle.request_types.specs.declared.mods.ModSpec.{ModSpec}
+use Rattle.request_types.specs.declared.codes.Code.{Code}
+use Rattle.request_types.specs.declared.codes.Code.TheVariants as refused
 use Rattle.table_rows.specs.declared.slot_ref.SlotRef.{SlotRef}
 use Rattle.table_rows.specs.Rows.{Rows, State, no_table, no_rows}
 use Rattle.table_rows.specs.Slots.{row_of, row_at, without, with_row, with_row_at, without_at}

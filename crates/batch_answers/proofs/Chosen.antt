@@ -7,11 +7,11 @@ use Rattle.index_tree.proofs.InOrder.{in_order_mapped}
 use Rattle.index_tree.proofs.Through.{map_kept}
 use Rattle.row_types.specs.declared.values.Value.{Value}
 use Rattle.row_types.specs.declared.tables.Schema.{Schema}
-use Rattle.row_store.specs.Entries.{Entry, entry_cmp}
-use Rattle.find_filter.specs.declared.finds.FindOp.{FindOp}
-use Rattle.find_filter.specs.declared.finds.FindOp.TheVariants.{Equal, Greater, GreaterEqual, Less, LessEqual}
-use Rattle.find_filter.specs.declared.finds.FindSpec.{FindSpec}
-use Rattle.find_filter.specs.declared.filters.FilterSpec.{FilterSpec}
+use Rattle.table_rows.specs.Entries.{Entry, entry_cmp}
+use Rattle.request_types.specs.declared.finds.FindOp.{FindOp}
+use Rattle.request_types.specs.declared.finds.FindOp.TheVariants.{Equal, Greater, GreaterEqual, Less, LessEqual}
+use Rattle.request_types.specs.declared.finds.FindSpec.{FindSpec}
+use Rattle.request_types.specs.declared.filters.FilterSpec.{FilterSpec}
 use Rattle.find_filter.specs.declared.filters.Step.{Step}
 use Rattle.find_filter.specs.declared.filters.Step.TheVariants.{Keep, Skip, Stop}
 use Rattle.find_filter.specs.Filter.{step_of}

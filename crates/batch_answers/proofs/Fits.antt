@@ -8,9 +8,9 @@ use Rattle.std.proofs.lemmas.Bool.{and_from}
 use Rattle.std.proofs.lemmas.List.Elements.{recursion_from_All}
 use Rattle.row_types.specs.declared.tables.TableDef.{TableDef}
 use Rattle.row_types.specs.Valid.{are_distinct}
-use Rattle.find_filter.specs.declared.finds.FindSpec.{FindSpec}
-use Rattle.find_filter.specs.Fits.{AreNumbers, FindFits, FindFitsTable}
-use Rattle.find_filter.proofs.FitFacts.{is_within, holds_there}
+use Rattle.request_types.specs.declared.finds.FindSpec.{FindSpec}
+use Rattle.request_types.specs.Fits.{AreNumbers, FindFits, FindFitsTable}
+use Rattle.request_types.proofs.FitFacts.{is_within, holds_there}
 use Rattle.table_rows.specs.declared.slot_ref.SlotRef.{SlotRef}
 use Rattle.table_rows.specs.Rows.{State, no_table, columns_of}
 use Rattle.table_rows.specs.Slots.{is_live_in}
@@ -19,7 +19,7 @@ use Rattle.table_rows.proofs.States.{zip_long}
 use Rattle.table_rows.proofs.Passing.{none_any}
 use Rattle.find_scan.specs.Select.{AreDistinct}
 use Rattle.find_modify.specs.Change.{same_slot, AreSlots}
-use Rattle.line_pipeline.specs.declared.batches.Item.{Item}
+use Rattle.request_types.specs.declared.batches.Item.{Item}
 use Rattle.batch_answers.specs.Steps.{ends_run}
 
 module _ (state : State) (valid : IsValidState state) (find : FindSpec) (fits : FindFits state.schema find) where

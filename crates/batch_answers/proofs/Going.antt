@@ -6,7 +6,7 @@
 use Rattle.std.proofs.Common.{◌≡◌, ◌≢◌, ℕ, ◌≤◌, Result, Ok, Err, List, length, take, drop, refl, ap, sym, subst, ◌∙◌, arith}
 use Rattle.std.proofs.lemmas.List.{take-append-le, length-append}
 use Rattle.row_types.specs.declared.values.Value.{Value}
-use Rattle.open_index.specs.declared.codes.Code.{Code}
+use Rattle.request_types.specs.declared.codes.Code.{Code}
 use Rattle.table_rows.specs.declared.undo.Undo.{Undo}
 use Rattle.table_rows.specs.Rows.{State}
 use Rattle.table_rows.specs.Undoing.{since, undone_all, LeadsBack}

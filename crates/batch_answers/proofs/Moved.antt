@@ -10,7 +10,7 @@ use Rattle.index_tree.proofs.Elements.{each_member, filter_agree}
 use Rattle.index_tree.proofs.Through.{map_kept, map_put_between}
 use Rattle.row_types.specs.declared.values.Value.{Value}
 use Rattle.row_types.specs.declared.indexes.IndexDef.{IndexDef}
-use Rattle.row_store.specs.Entries.{Entry, entry_cmp}
+use Rattle.table_rows.specs.Entries.{Entry, entry_cmp}
 use Rattle.table_rows.specs.Indexes.{primary_of}
 use Rattle.table_rows.specs.Slots.{is_in, row_in, row_of, with_row, without}
 use Rattle.table_rows.specs.Checks.{meets, clashes}

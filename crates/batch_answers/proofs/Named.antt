@@ -7,7 +7,7 @@ use Rattle.std.specs.List.{AllByRecursion}
 use Rattle.std.proofs.lemmas.Bool.{true≢false, cases_lt, eqb-true, eq-eqb, ne_eqb}
 use Rattle.std.proofs.lemmas.List.{length-map, get_or-map, get_or_past}
 use Rattle.std.proofs.lemmas.List.Elements.{All-from_recursion}
-use Rattle.row_store.specs.Entries.{Entry}
+use Rattle.table_rows.specs.Entries.{Entry}
 use Rattle.table_rows.specs.Rows.{Rows, State, no_rows, rows_of}
 use Rattle.table_rows.specs.Slots.{is_in}
 use Rattle.table_rows.specs.Valid.{IsValidState}

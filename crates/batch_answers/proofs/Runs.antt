@@ -5,10 +5,10 @@ use Rattle.std.proofs.Common.{◌≡◌, ℕ, Bool, true, false, not, cond, List
 use Rattle.std.specs.Prelude.{◌==◌}
 use Rattle.std.proofs.lemmas.Bool.{true≢false, and_parts, eqb-true, not-true}
 use Rattle.std.proofs.lemmas.List.{append_assoc, append-nil}
-use Rattle.hs_outside.specs.declared.connections.ConnId.{ConnId}
-use Rattle.line_pipeline.specs.declared.batches.Item.{Item}
-use Rattle.line_pipeline.specs.declared.batches.ItemKind.{ItemKind}
-use Rattle.line_pipeline.specs.declared.batches.Part.{Part}
+use Rattle.request_types.specs.declared.connections.ConnId.{ConnId}
+use Rattle.request_types.specs.declared.batches.Item.{Item}
+use Rattle.request_types.specs.declared.batches.ItemKind.{ItemKind}
+use Rattle.request_types.specs.declared.batches.Part.{Part}
 use Rattle.line_pipeline.specs.Table.{same_id}
 use Rattle.batch_answers.specs.Database.{Database}
 use Rattle.batch_answers.specs.Answers.{answered, replies_to, after_all}

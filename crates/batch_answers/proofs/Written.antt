@@ -8,7 +8,8 @@ use Rattle.hs_token.specs.declared.tokens.Token.{Token}
 use Rattle.hs_token.specs.declared.tokens.Token.TheVariants.{Text}
 use Rattle.hs_token.specs.Spelling.{text_spelled, behind_tabs, reply_head, reply_line}
 use Rattle.hs_token.proofs.ReplyLemmas.{reply_parts}
-use Rattle.batch_answers.specs.Replies.{text_of, code_reply, count_reply}
+use Rattle.batch_answers.specs.Replies.{code_reply, count_reply}
+use Rattle.request_types.specs.Code.{text_of}
 
 -- a reply line in its parts
 line_is : (code : ℕ) (tokens : List Token) → code < 2 ^ 32 → reply_line code 1 tokens ≡ reply_head code 1 ++ (behind_tabs tokens ++ 10 ∷ [])

@@ -4,16 +4,16 @@ use Rattle.std.specs.declared.cmp.Ordering.{Ordering}
 use Rattle.index_tree.specs.Ordered.{with_item}
 use Rattle.row_types.specs.declared.values.Value.{Value}
 use Rattle.row_types.specs.Order.{key_cmp}
-use Rattle.row_store.specs.Entries.{Entry, cells}
+use Rattle.table_rows.specs.Entries.{Entry, cells}
 use Rattle.table_rows.specs.Rows.{State, columns_of, indexes_of}
 use Rattle.table_rows.specs.Indexes.{primary_of}
-use Rattle.find_filter.specs.declared.finds.FindSpec.{FindSpec}
-use Rattle.find_filter.specs.declared.mods.ModSpec.{ModSpec}
-use Rattle.open_index.specs.declared.codes.Code.{Code}
-use Rattle.open_index.specs.Code.{number}
-use Rattle.open_index.specs.declared.requests.InsertSpec.{InsertSpec}
-use Rattle.open_index.specs.declared.requests.Request.{Request}
-use Rattle.open_index.specs.declared.requests.Request.TheVariants.{Find, Modify, Insert}
+use Rattle.request_types.specs.declared.finds.FindSpec.{FindSpec}
+use Rattle.request_types.specs.declared.mods.ModSpec.{ModSpec}
+use Rattle.request_types.specs.declared.codes.Code.{Code}
+use Rattle.request_types.specs.Code.{number}
+use Rattle.request_types.specs.declared.inserts.InsertSpec.{InsertSpec}
+use Rattle.request_types.specs.declared.requests.Request.{Request}
+use Rattle.request_types.specs.declared.requests.Request.TheVariants.{Find, Modify, Insert}
 use Rattle.find_scan.specs.Select.{selected, slots_of}
 use Rattle.find_scan.specs.Show.{find_reply}
 use Rattle.find_scan.specs.Rendering.{rendered}
@@ -22,8 +22,8 @@ use Rattle.find_scan.specs.declared.replies.Rendered.TheVariants.{Fits, TooBig}
 use Rattle.row_insert.specs.Refusal.{refusal_of}
 use Rattle.row_insert.specs.Insert.{new_row}
 use Rattle.find_modify.specs.Change.{changed_all}
-use Rattle.line_pipeline.specs.declared.batches.ItemKind.{ItemKind}
-use Rattle.line_pipeline.specs.declared.batches.ItemKind.TheVariants as kinds
+use Rattle.request_types.specs.declared.batches.ItemKind.{ItemKind}
+use Rattle.request_types.specs.declared.batches.ItemKind.TheVariants as kinds
 use Rattle.batch_answers.specs.Database.{Database, database_of, placed_in, rows_alone}
 use Rattle.batch_answers.specs.Replies.{code_reply, count_reply, big}
 

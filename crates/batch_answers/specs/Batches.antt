@@ -1,12 +1,12 @@
 -- A batch by its connections, and the part that each is answered.
 use Rattle.std.specs.Prelude.{⊤, List, [], ◌∷◌, if◌then◌else◌}
 use Rattle.row_types.specs.declared.tables.Schema.{Schema}
-use Rattle.hs_outside.specs.declared.connections.ConnId.{ConnId}
-use Rattle.open_index.specs.Fits.{RequestFits}
-use Rattle.line_pipeline.specs.declared.batches.Item.{Item}
-use Rattle.line_pipeline.specs.declared.batches.ItemKind.{ItemKind}
-use Rattle.line_pipeline.specs.declared.batches.ItemKind.TheVariants as kinds
-use Rattle.line_pipeline.specs.declared.batches.Part.{Part}
+use Rattle.request_types.specs.declared.connections.ConnId.{ConnId}
+use Rattle.request_types.specs.Fits.{RequestFits}
+use Rattle.request_types.specs.declared.batches.Item.{Item}
+use Rattle.request_types.specs.declared.batches.ItemKind.{ItemKind}
+use Rattle.request_types.specs.declared.batches.ItemKind.TheVariants as kinds
+use Rattle.request_types.specs.declared.batches.Part.{Part}
 use Rattle.line_pipeline.specs.Table.{same_id}
 use Rattle.batch_answers.specs.Database.{Database}
 use Rattle.batch_answers.specs.Answers.{replies_to, after_all}

@@ -7,10 +7,10 @@ use Rattle.row_types.specs.declared.columns.Kind.TheVariants.{Int, Bytes}
 use Rattle.row_types.specs.declared.indexes.IndexDef.{IndexDef}
 use Rattle.row_types.specs.declared.indexes.IndexKind.TheVariants.{Primary, Unique, Plain}
 use Rattle.row_types.specs.declared.tables.Schema.{Schema}
-use Rattle.find_filter.specs.declared.finds.FindSpec.{FindSpec}
-use Rattle.find_filter.specs.declared.mods.ModKind.{ModKind}
-use Rattle.find_filter.specs.declared.mods.ModSpec.{ModSpec}
-use Rattle.open_index.specs.declared.requests.InsertSpec.{InsertSpec}
+use Rattle.request_types.specs.declared.finds.FindSpec.{FindSpec}
+use Rattle.request_types.specs.declared.mods.ModKind.{ModKind}
+use Rattle.request_types.specs.declared.mods.ModSpec.{ModSpec}
+use Rattle.request_types.specs.declared.inserts.InsertSpec.{InsertSpec}
 use Rattle.find_scan.specs.Examples.{some_schema, row}
 use Rattle.batch_answers.specs.Database.{Database}
 

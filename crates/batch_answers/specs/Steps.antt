@@ -6,8 +6,8 @@ use Rattle.table_rows.specs.Undoing.{since, LeadsBack}
 use Rattle.table_rows.specs.Widths.{IsRoomier}
 use Rattle.find_modify.specs.declared.modifies.Modified.{Modified}
 use Rattle.find_modify.specs.declared.modifies.Modified.TheVariants.{Done, Refused}
-use Rattle.line_pipeline.specs.declared.batches.Item.{Item}
-use Rattle.line_pipeline.specs.declared.batches.Part.{Part}
+use Rattle.request_types.specs.declared.batches.Item.{Item}
+use Rattle.request_types.specs.declared.batches.Part.{Part}
 use Rattle.line_pipeline.specs.Table.{same_id}
 use Rattle.batch_answers.specs.Replies.{code_reply}
 

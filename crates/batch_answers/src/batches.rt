@@ -6,7 +6,7 @@ ghost use Rattle.batch_answers.specs.Batches.{ItemFits, runs_of, parts_of, after
 ghost use Rattle.batch_answers.specs.Steps.{CanGoBack, ends_run};
 
 use crate::items::answer;
-use line_pipeline::{Batch, Item, Part, Replies};
+use request_types::{Batch, Item, Part, Replies};
 use row_types::{ByteText, List, Schema};
 use std::alloc::{AllocError, Global};
 use std::mem::replace;

@@ -1,6 +1,6 @@
 //! A change, as an item of a batch.
 ghost use Rattle.std.specs.Prelude.{◌≡◌, ℕ, List, ◌++◌, length, true, false, IfOk, OnOk, Ok};
-ghost use Rattle.find_filter.specs.Fits.{FindFits, ModFits};
+ghost use Rattle.request_types.specs.Fits.{FindFits, ModFits};
 ghost use Rattle.std.specs.List.{All};
 ghost use Rattle.table_rows.specs.declared.slot_ref.SlotRef.{SlotRef as Slot};
 ghost use Rattle.table_rows.specs.Slots.{is_live_in};
@@ -11,10 +11,9 @@ ghost use Rattle.batch_answers.specs.Answers.{chosen, changed, unless_refused, c
 ghost use Rattle.batch_answers.specs.Steps.{CanGoBack, reply_of};
 
 use crate::codes::{push_code, push_count};
-use find_filter::{FindSpec, ModSpec};
 use find_modify::{Modified, modify};
 use find_scan::{Rendered, render, select};
-use open_index::Code;
+use request_types::{Code, FindSpec, ModSpec};
 use std::alloc::{AllocError, Global};
 use table_rows::{SlotRef, Tables, UndoList};
 

@@ -1,8 +1,9 @@
 //! The replies that show no rows.
 ghost use Rattle.std.specs.Prelude.{◌≡◌, ◌++◌, OnOk};
-ghost use Rattle.batch_answers.specs.Replies.{text_of, code_reply, count_reply};
+ghost use Rattle.batch_answers.specs.Replies.{code_reply, count_reply};
 
 use hs_token::{push_head, push_integer, push_text};
+use request_types::text_of;
 use std::alloc::AllocError;
 
 const TAB: u8 = 0x09;
@@ -30,35 +31,4 @@ pub(crate) fn push_count(out: &mut Vec<u8>, count: u32) -> Result<(), AllocError
     out.push(TAB)?;
     push_integer(out, i64::from(count))?;
     Ok(out.push(LINE_FEED)?)
-}
-
-/// The text that stands beside a code, which is empty for a number that is no code's.
-fn text_of(code: u32) -> &'static str
-    ensures { result.now ≡ text_of code }
-{
-    match code {
-        1 => "cmd",
-        2 => "args",
-        3 => "unauth",
-        4 => "token",
-        5 => "noindex",
-        6 => "table",
-        7 => "index",
-        8 => "column",
-        9 => "readonly",
-        10 => "op",
-        11 => "vlen",
-        12 => "in",
-        13 => "filter",
-        14 => "mod",
-        15 => "value",
-        16 => "dup",
-        17 => "null",
-        18 => "range",
-        19 => "full",
-        20 => "big",
-        21 => "ids",
-        22 => "authkey",
-        _ => "",
-    }
 }

@@ -1,13 +1,12 @@
 //! A find, as an item of a batch.
 ghost use Rattle.std.specs.Prelude.{◌≡◌, ◌++◌, OnOk};
-ghost use Rattle.find_filter.specs.Fits.{FindFits};
+ghost use Rattle.request_types.specs.Fits.{FindFits};
 ghost use Rattle.batch_answers.specs.Database.{database_of};
 ghost use Rattle.batch_answers.specs.Answers.{find_answered};
 
 use crate::codes::push_code;
-use find_filter::FindSpec;
 use find_scan::{Rendered, render, select};
-use open_index::Code;
+use request_types::{Code, FindSpec};
 use std::alloc::{AllocError, Global};
 use table_rows::Tables;
 

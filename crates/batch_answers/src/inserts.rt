@@ -1,12 +1,12 @@
 //! An insert, as an item of a batch.
 ghost use Rattle.std.specs.Prelude.{◌≡◌, ◌++◌, OnOk};
-ghost use Rattle.open_index.specs.Fits.{InsertFits};
+ghost use Rattle.request_types.specs.Fits.{InsertFits};
 ghost use Rattle.batch_answers.specs.Database.{database_of};
 ghost use Rattle.batch_answers.specs.Answers.{insert_answered};
 ghost use Rattle.batch_answers.specs.Steps.{CanGoBack};
 
 use crate::codes::push_code;
-use open_index::InsertSpec;
+use request_types::InsertSpec;
 use row_insert::{Inserted, insert};
 use row_types::Schema;
 use std::alloc::{AllocError, Global};

@@ -1,9 +1,9 @@
 //! What requests are answered, by examples.
 ghost use Rattle.std.specs.Prelude.{◌≡◌, [], ◌∷◌, true, false};
 ghost use Rattle.row_types.specs.Valid.{IsValid};
-ghost use Rattle.find_filter.specs.declared.finds.FindOp.TheVariants.{LessEqual, GreaterEqual};
-ghost use Rattle.find_filter.specs.declared.mods.ModKind.TheVariants.{Update, Add, Remove};
-ghost use Rattle.open_index.specs.declared.requests.Request.TheVariants.{Find, Modify, Insert};
+ghost use Rattle.request_types.specs.declared.finds.FindOp.TheVariants.{LessEqual, GreaterEqual};
+ghost use Rattle.request_types.specs.declared.mods.ModKind.TheVariants.{Update, Add, Remove};
+ghost use Rattle.request_types.specs.declared.requests.Request.TheVariants.{Find, Modify, Insert};
 ghost use Rattle.find_scan.specs.Examples.{int, row, find_of};
 ghost use Rattle.batch_answers.specs.Replies.{code_reply, count_reply};
 ghost use Rattle.batch_answers.specs.Answers.{request_answered};

@@ -4,9 +4,9 @@ use Rattle.std.specs.Ordering.{is_eq, is_lt, is_gt}
 use Rattle.row_types.specs.declared.values.Value.{Value}
 use Rattle.row_types.specs.declared.values.Value.TheVariants.{Null}
 use Rattle.row_types.specs.Order.{value_cmp}
-use Rattle.find_filter.specs.declared.filters.FilterOp.{FilterOp}
-use Rattle.find_filter.specs.declared.filters.FilterOp.TheVariants.{Equal, NotEqual, Greater, GreaterEqual, Less, LessEqual}
-use Rattle.find_filter.specs.declared.filters.FilterSpec.{FilterSpec}
+use Rattle.request_types.specs.declared.filters.FilterOp.{FilterOp}
+use Rattle.request_types.specs.declared.filters.FilterOp.TheVariants.{Equal, NotEqual, Greater, GreaterEqual, Less, LessEqual}
+use Rattle.request_types.specs.declared.filters.FilterSpec.{FilterSpec}
 use Rattle.find_filter.specs.declared.filters.Step.{Step}
 use Rattle.find_filter.specs.declared.filters.Step.TheVariants.{Keep, Skip, Stop}
 

@@ -1,8 +1,8 @@
 //! What becomes of rows, by examples.
 ghost use Rattle.std.specs.Prelude.{◌≡◌, [], ◌∷◌, pos, true, false};
 ghost use Rattle.row_types.specs.declared.values.Value.TheVariants.{Null, Int, Text};
-ghost use Rattle.find_filter.specs.declared.filters.FilterOp.{FilterOp};
-ghost use Rattle.find_filter.specs.declared.filters.FilterOp.TheVariants as ops;
+ghost use Rattle.request_types.specs.declared.filters.FilterOp.{FilterOp};
+ghost use Rattle.request_types.specs.declared.filters.FilterOp.TheVariants as ops;
 ghost use Rattle.find_filter.specs.declared.filters.Step.TheVariants.{Keep, Skip, Stop};
 ghost use Rattle.find_filter.specs.Filter.{step_of};
 

@@ -14,14 +14,14 @@ use Rattle.row_types.specs.declared.columns.Fit.TheVariants.{WrongKind}
 use Rattle.row_types.specs.declared.columns.Column.{Column}
 use Rattle.row_types.specs.declared.tables.TableDef.{TableDef}
 use Rattle.row_types.specs.Fit.{kind_fit}
-use Rattle.row_store.specs.Entries.{Entry, cell_at}
-use Rattle.find_filter.specs.declared.mods.ModKind.{ModKind}
-use Rattle.find_filter.specs.declared.mods.ModKind.TheVariants.{Update, Add, Subtract, Remove}
-use Rattle.find_filter.specs.declared.mods.ModSpec.{ModSpec}
-use Rattle.find_filter.specs.Fits.{IsOfKind, IsAt, AreAt, AreNumbers, ValuesFit, ModFitsTable}
-use Rattle.find_filter.proofs.FitFacts.{holds_there}
-use Rattle.open_index.specs.declared.codes.Code.{Code}
-use Rattle.open_index.specs.declared.codes.Code.TheVariants.{Range}
+use Rattle.table_rows.specs.Entries.{Entry, cell_at}
+use Rattle.request_types.specs.declared.mods.ModKind.{ModKind}
+use Rattle.request_types.specs.declared.mods.ModKind.TheVariants.{Update, Add, Subtract, Remove}
+use Rattle.request_types.specs.declared.mods.ModSpec.{ModSpec}
+use Rattle.request_types.specs.Fits.{IsOfKind, IsAt, AreAt, AreNumbers, ValuesFit, ModFitsTable}
+use Rattle.request_types.proofs.FitFacts.{holds_there}
+use Rattle.request_types.specs.declared.codes.Code.{Code}
+use Rattle.request_types.specs.declared.codes.Code.TheVariants.{Range}
 use Rattle.table_rows.specs.Rows.{State, columns_of, entries_of}
 use Rattle.table_rows.specs.Slots.{is_live, row_at, row_of}
 use Rattle.table_rows.specs.Checks.{IsRow}

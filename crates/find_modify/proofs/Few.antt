@@ -7,7 +7,7 @@ use Rattle.std.proofs.lemmas.List.Filters.{length-filter_both}
 use Rattle.std.proofs.lemmas.List.Sums.{sum_by-cons}
 use Rattle.row_types.specs.Valid.{are_distinct}
 use Rattle.row_types.specs.Size.{row_size}
-use Rattle.row_store.specs.Entries.{Entry}
+use Rattle.table_rows.specs.Entries.{Entry}
 use Rattle.table_rows.specs.declared.slot_ref.SlotRef.{SlotRef}
 use Rattle.table_rows.specs.Rows.{State, entries_of}
 use Rattle.table_rows.specs.Slots.{is_in, is_live, without}

@@ -7,7 +7,7 @@ use Rattle.std.proofs.lemmas.Bool.{true≢false, or_parts, and_parts, not-true, 
 use Rattle.std.proofs.lemmas.List.Folds.{list_any-append}
 use Rattle.index_tree.specs.Ordered.{is_below}
 use Rattle.row_types.specs.declared.values.Value.{Value}
-use Rattle.row_store.specs.Entries.{Entry, entry_cmp}
+use Rattle.table_rows.specs.Entries.{Entry, entry_cmp}
 use Rattle.row_types.specs.Valid.{are_distinct}
 use Rattle.table_rows.specs.declared.slot_ref.SlotRef.{SlotRef}
 use Rattle.find_modify.specs.Change.{same_slot, AreSlots}

@@ -5,10 +5,10 @@ use Rattle.std.proofs.Common.{◌≡◌, ℕ, ◌<◌, true, List, length, Resul
 use Rattle.std.specs.Prelude.{IfOk, IsErr}
 use Rattle.std.specs.List.{AllByRecursion}
 use Rattle.row_types.specs.declared.tables.TableDef.{TableDef}
-use Rattle.row_store.specs.Entries.{Entry}
-use Rattle.find_filter.specs.declared.mods.ModSpec.{ModSpec}
-use Rattle.find_filter.specs.Fits.{ModFitsTable, ModFits}
-use Rattle.find_filter.proofs.FitFacts.{is_within, holds_there}
+use Rattle.table_rows.specs.Entries.{Entry}
+use Rattle.request_types.specs.declared.mods.ModSpec.{ModSpec}
+use Rattle.request_types.specs.Fits.{ModFitsTable, ModFits}
+use Rattle.request_types.proofs.FitFacts.{is_within, holds_there}
 use Rattle.table_rows.specs.declared.slot_ref.SlotRef.{SlotRef}
 use Rattle.table_rows.specs.declared.undo.Undo.{Undo}
 use Rattle.table_rows.specs.Rows.{State, no_table, def_of}

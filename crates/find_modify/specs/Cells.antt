@@ -2,11 +2,11 @@
 use Rattle.std.specs.Prelude.{ℤ, pos, negsuc, ◌+ℤ◌, ◌-ℤ◌, int_lt, Bool, ◌&&◌, ◌||◌, ℕ, List, [], ◌∷◌, set, Result, Ok, Err, if◌then◌else◌}
 use Rattle.row_types.specs.declared.values.Value.{Value}
 use Rattle.row_types.specs.declared.values.Value.TheVariants.{Null, Int, Text}
-use Rattle.row_store.specs.Entries.{cell_at}
-use Rattle.find_filter.specs.declared.mods.ModKind.{ModKind}
-use Rattle.find_filter.specs.declared.mods.ModKind.TheVariants.{Update, Add, Subtract, Remove}
-use Rattle.open_index.specs.declared.codes.Code.{Code}
-use Rattle.open_index.specs.declared.codes.Code.TheVariants.{Range}
+use Rattle.table_rows.specs.Entries.{cell_at}
+use Rattle.request_types.specs.declared.mods.ModKind.{ModKind}
+use Rattle.request_types.specs.declared.mods.ModKind.TheVariants.{Update, Add, Subtract, Remove}
+use Rattle.request_types.specs.declared.codes.Code.{Code}
+use Rattle.request_types.specs.declared.codes.Code.TheVariants.{Range}
 
 -- What follows, unless the change was refused before.
 infixl 10 ◌>>=◌

@@ -3,11 +3,11 @@ use Rattle.std.specs.Prelude.{◌≡◌, ℕ, Bool, true, false, ◌==◌, List,
 use Rattle.std.specs.List.{AllByRecursion}
 use Rattle.row_types.specs.declared.values.Value.{Value}
 use Rattle.row_types.specs.Valid.{are_distinct}
-use Rattle.find_filter.specs.declared.mods.ModKind.{ModKind}
-use Rattle.find_filter.specs.declared.mods.ModKind.TheVariants.{Update, Add, Subtract, Remove}
-use Rattle.find_filter.specs.declared.mods.ModSpec.{ModSpec}
-use Rattle.open_index.specs.declared.codes.Code.{Code}
-use Rattle.open_index.specs.Code.{number}
+use Rattle.request_types.specs.declared.mods.ModKind.{ModKind}
+use Rattle.request_types.specs.declared.mods.ModKind.TheVariants.{Update, Add, Subtract, Remove}
+use Rattle.request_types.specs.declared.mods.ModSpec.{ModSpec}
+use Rattle.request_types.specs.declared.codes.Code.{Code}
+use Rattle.request_types.specs.Code.{number}
 use Rattle.table_rows.specs.declared.slot_ref.SlotRef.{SlotRef}
 use Rattle.table_rows.specs.declared.undo.Undo.{Undo}
 use Rattle.table_rows.specs.Rows.{State}

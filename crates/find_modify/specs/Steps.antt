@@ -3,8 +3,8 @@ use Rattle.std.specs.Prelude.{◌≡◌, ◌≤◌, List, length, take, Result, 
 use Rattle.table_rows.specs.declared.undo.Undo.{Undo}
 use Rattle.table_rows.specs.Rows.{State}
 use Rattle.table_rows.specs.Undoing.{since, LeadsBack}
-use Rattle.open_index.specs.declared.codes.Code.{Code}
-use Rattle.open_index.specs.Code.{number}
+use Rattle.request_types.specs.declared.codes.Code.{Code}
+use Rattle.request_types.specs.Code.{number}
 use Rattle.find_modify.specs.declared.modifies.Modified.{Modified}
 use Rattle.find_modify.specs.declared.modifies.Modified.TheVariants as answers
 use Rattle.find_modify.specs.declared.faults.Fault.{Fault}

@@ -5,8 +5,7 @@ ghost use Rattle.find_modify.specs.Cells.{turns, added, taken_off, changed_cell,
 ghost use Rattle.find_modify.specs.Steps.{Gives};
 
 use crate::faults::Fault;
-use find_filter::{ModKind, ModSpec};
-use open_index::Code;
+use request_types::{Code, ModKind, ModSpec};
 use row_types::{List, Row, Value, copy_row, copy_value};
 use std::alloc::Global;
 use std::mem::replace;

@@ -1,5 +1,5 @@
 //! Why a row wasn't changed.
-use open_index::Code;
+use request_types::Code;
 use std::alloc::AllocError;
 
 /// A refusal of the row, or want of memory, which is none.

@@ -1,8 +1,8 @@
 //! The words of the contracts, worked at cells, at a row, and at a table with one row.
 ghost use Rattle.std.specs.Prelude.{◌≡◌, [], ◌∷◌, codes, Ok, Err, pos, negsuc, false};
 ghost use Rattle.row_types.specs.declared.values.Value.TheVariants.{Null, Int, Text};
-ghost use Rattle.find_filter.specs.declared.mods.ModKind.TheVariants.{Update, Add, Subtract, Remove};
-ghost use Rattle.open_index.specs.declared.codes.Code.TheVariants as refused;
+ghost use Rattle.request_types.specs.declared.mods.ModKind.TheVariants.{Update, Add, Subtract, Remove};
+ghost use Rattle.request_types.specs.declared.codes.Code.TheVariants as refused;
 ghost use Rattle.table_rows.specs.Slots.{with_row_at, without_at};
 ghost use Rattle.row_insert.specs.Examples.{person, one_person};
 ghost use Rattle.find_modify.specs.Cells.{added, taken_off, changed_row};

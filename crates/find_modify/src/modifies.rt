@@ -1,6 +1,6 @@
 //! Changing the rows in some slots.
 ghost use Rattle.std.specs.Prelude.{◌≡◌, ◌≢◌, ℕ, ◌≤◌, ◌<◌, ◌^◌, length, Ok, IfOk};
-ghost use Rattle.find_filter.specs.Fits.{AreNumbers, ModFits, ModFitsTable};
+ghost use Rattle.request_types.specs.Fits.{AreNumbers, ModFits, ModFitsTable};
 ghost use Rattle.table_rows.specs.Rows.{def_of, columns_of};
 ghost use Rattle.row_insert.specs.Insert.{IsUnchanged};
 ghost use Rattle.find_modify.specs.declared.modifies.Modified.TheVariants.{Done};
@@ -9,7 +9,7 @@ ghost use Rattle.find_modify.specs.Steps.{Gives, IsAnswer, AreSteps};
 
 use crate::faults::Fault;
 use crate::one_row::change_one;
-use find_filter::ModSpec;
+use request_types::ModSpec;
 use std::alloc::{AllocError, Global};
 use table_rows::{SlotRef, Tables, UndoList};
 

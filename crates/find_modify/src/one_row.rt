@@ -1,6 +1,6 @@
 //! One row, as a change leaves it.
 ghost use Rattle.std.specs.Prelude.{◌≡◌, ◌≢◌, ◌+◌, ◌≤◌, ◌<◌, length, true};
-ghost use Rattle.find_filter.specs.Fits.{AreNumbers, ModFitsTable};
+ghost use Rattle.request_types.specs.Fits.{AreNumbers, ModFitsTable};
 ghost use Rattle.table_rows.specs.declared.slot_ref.SlotRef.{SlotRef as Slot};
 ghost use Rattle.table_rows.specs.Rows.{def_of, columns_of};
 ghost use Rattle.table_rows.specs.Slots.{is_live_in};
@@ -9,7 +9,7 @@ ghost use Rattle.find_modify.specs.Steps.{Gives, AreSteps};
 
 use crate::cells::changed_row;
 use crate::faults::Fault;
-use find_filter::{ModKind, ModSpec};
+use request_types::{ModKind, ModSpec};
 use row_insert::refusal_of;
 use std::alloc::Global;
 use table_rows::{SlotRef, Tables, UndoList};

@@ -6,15 +6,15 @@ use Rattle.std.proofs.lemmas.List.Elements.{All-from_recursion}
 use Rattle.row_types.specs.declared.values.Value.{Value}
 use Rattle.index_tree.proofs.Elements.{all_kept, all_append, all_front, all_back, all_mapped, each_member}
 use Rattle.index_tree.proofs.InOrder.{all_in_order}
-use Rattle.row_store.specs.Entries.{Entry, entry_cmp}
-use Rattle.row_store.proofs.SlotLists.{all_reversed}
-use Rattle.find_filter.specs.declared.filters.FilterSpec.{FilterSpec}
+use Rattle.table_rows.specs.Entries.{Entry, entry_cmp}
+use Rattle.table_rows.proofs.SlotLists.{all_reversed}
+use Rattle.request_types.specs.declared.filters.FilterSpec.{FilterSpec}
 use Rattle.find_filter.specs.declared.filters.Step.{Step}
 use Rattle.find_filter.specs.declared.filters.Step.TheVariants.{Keep, Skip, Stop}
 use Rattle.find_filter.specs.Filter.{step_of}
-use Rattle.find_filter.specs.declared.finds.FindOp.{FindOp}
-use Rattle.find_filter.specs.declared.finds.FindOp.TheVariants.{Equal, Greater, GreaterEqual, Less, LessEqual}
-use Rattle.find_filter.specs.declared.finds.FindSpec.{FindSpec}
+use Rattle.request_types.specs.declared.finds.FindOp.{FindOp}
+use Rattle.request_types.specs.declared.finds.FindOp.TheVariants.{Equal, Greater, GreaterEqual, Less, LessEqual}
+use Rattle.request_types.specs.declared.finds.FindSpec.{FindSpec}
 use Rattle.table_rows.specs.declared.slot_ref.SlotRef.{SlotRef}
 use Rattle.table_rows.specs.Rows.{State, entries_of}
 use Rattle.table_rows.specs.Slots.{is_live_in}

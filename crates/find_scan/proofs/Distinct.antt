@@ -17,17 +17,17 @@ use Rattle.index_tree.specs.Ordered.{AreApart, is_below, in_order}
 use Rattle.index_tree.proofs.Ascending.{equal_is, parted_below}
 use Rattle.index_tree.proofs.Elements.{all_pass, all_weaker, all_append, all_front, all_mapped, each_member, member_of_kept, kept_passes}
 use Rattle.index_tree.proofs.InOrder.{all_in_order, in_order_members, ascending_in_order}
-use Rattle.row_store.specs.Entries.{Entry, cells, entry_cmp}
-use Rattle.row_store.proofs.CellOrder.{entry_cmp_total}
-use Rattle.row_store.proofs.SlotLists.{all_reversed}
-use Rattle.find_filter.specs.declared.filters.FilterSpec.{FilterSpec}
+use Rattle.table_rows.specs.Entries.{Entry, cells, entry_cmp}
+use Rattle.table_rows.proofs.CellOrder.{entry_cmp_total}
+use Rattle.table_rows.proofs.SlotLists.{all_reversed}
+use Rattle.request_types.specs.declared.filters.FilterSpec.{FilterSpec}
 use Rattle.find_filter.specs.declared.filters.Step.{Step}
 use Rattle.find_filter.specs.declared.filters.Step.TheVariants.{Keep, Skip, Stop}
 use Rattle.find_filter.specs.Filter.{step_of}
-use Rattle.find_filter.specs.declared.finds.FindOp.{FindOp}
-use Rattle.find_filter.specs.declared.finds.FindOp.TheVariants.{Equal, Greater, GreaterEqual, Less, LessEqual}
-use Rattle.find_filter.specs.declared.finds.InSpec.{InSpec}
-use Rattle.find_filter.specs.declared.finds.FindSpec.{FindSpec}
+use Rattle.request_types.specs.declared.finds.FindOp.{FindOp}
+use Rattle.request_types.specs.declared.finds.FindOp.TheVariants.{Equal, Greater, GreaterEqual, Less, LessEqual}
+use Rattle.request_types.specs.declared.finds.InSpec.{InSpec}
+use Rattle.request_types.specs.declared.finds.FindSpec.{FindSpec}
 use Rattle.table_rows.specs.declared.slot_ref.SlotRef.{SlotRef}
 use Rattle.table_rows.specs.Rows.{State, entries_of}
 use Rattle.table_rows.specs.Slots.{is_in, row_of}

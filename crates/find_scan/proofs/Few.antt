@@ -5,7 +5,7 @@ use Rattle.std.proofs.lemmas.Bool.{false≢true, not-true, and_parts, or_cases, 
 use Rattle.std.proofs.lemmas.Map.Steps.{length-le_from_distinct_below}
 use Rattle.row_types.specs.declared.columns.Column.{Column}
 use Rattle.row_types.specs.Valid.{are_distinct}
-use Rattle.find_filter.specs.Fits.{AreNumbers}
+use Rattle.request_types.specs.Fits.{AreNumbers}
 
 others_differ : (x : ℕ) (xs : List ℕ) → list_any (λ y. nat_eq y x) xs ≡ false → AllByRecursion (λ y. eqb x y ≡ false) xs
 others_differ x [] none = tt

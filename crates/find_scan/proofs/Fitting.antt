@@ -12,15 +12,15 @@ use Rattle.index_tree.specs.Ordered.{IsAscending, AreApart}
 use Rattle.index_tree.proofs.Apart.{apart_from_ascending}
 use Rattle.index_tree.proofs.Elements.{all_kept, all_weaker}
 use Rattle.index_tree.proofs.InOrder.{all_in_order, ascending_in_order}
-use Rattle.row_store.specs.Entries.{Entry, entry_cmp}
-use Rattle.row_store.proofs.CellOrder.{entry_cmp_total, apart_at_more}
-use Rattle.row_store.proofs.SlotLists.{all_reversed}
-use Rattle.find_filter.specs.declared.filters.FilterSpec.{FilterSpec}
-use Rattle.find_filter.specs.declared.finds.FindOp.TheVariants.{Equal}
-use Rattle.find_filter.specs.declared.finds.InSpec.{InSpec}
-use Rattle.find_filter.specs.declared.finds.FindSpec.{FindSpec}
-use Rattle.find_filter.specs.Fits.{KeyFits, ListFits, FindFitsTable, FindFits}
-use Rattle.find_filter.proofs.FitFacts.{is_within, holds_there, filters_within}
+use Rattle.table_rows.specs.Entries.{Entry, entry_cmp}
+use Rattle.table_rows.proofs.CellOrder.{entry_cmp_total, apart_at_more}
+use Rattle.table_rows.proofs.SlotLists.{all_reversed}
+use Rattle.request_types.specs.declared.filters.FilterSpec.{FilterSpec}
+use Rattle.request_types.specs.declared.finds.FindOp.TheVariants.{Equal}
+use Rattle.request_types.specs.declared.finds.InSpec.{InSpec}
+use Rattle.request_types.specs.declared.finds.FindSpec.{FindSpec}
+use Rattle.request_types.specs.Fits.{KeyFits, ListFits, FindFitsTable, FindFits}
+use Rattle.request_types.proofs.FitFacts.{is_within, holds_there, filters_within}
 use Rattle.table_rows.specs.declared.bound.Bound.{Bound}
 use Rattle.table_rows.specs.declared.bound.Bound.TheVariants.{From, Behind, To, Before}
 use Rattle.table_rows.specs.Rows.{State, no_table, def_of, columns_of, indexes_of, rows_of, entries_of}

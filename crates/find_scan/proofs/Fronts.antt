@@ -10,10 +10,10 @@ use Rattle.row_types.specs.declared.values.Value.{Value}
 use Rattle.row_types.specs.Order.{value_cmp, prefix_cmp}
 use Rattle.index_tree.specs.Ordered.{IsAscending}
 use Rattle.index_tree.proofs.Cuts.{filter_none}
-use Rattle.row_store.specs.Entries.{Entry, cell_at, cells, entry_cmp}
-use Rattle.row_store.proofs.CellOrder.{cut_closed}
-use Rattle.find_filter.specs.declared.finds.FindOp.{FindOp}
-use Rattle.find_filter.specs.declared.finds.FindOp.TheVariants as ops
+use Rattle.table_rows.specs.Entries.{Entry, cell_at, cells, entry_cmp}
+use Rattle.table_rows.proofs.CellOrder.{cut_closed}
+use Rattle.request_types.specs.declared.finds.FindOp.{FindOp}
+use Rattle.request_types.specs.declared.finds.FindOp.TheVariants as ops
 use Rattle.table_rows.specs.Walks.{walked}
 use Rattle.find_scan.specs.Select.{is_asked, directed, stands_to}
 use Rattle.find_scan.specs.Gathering.{front_of, is_equal, bound_of}

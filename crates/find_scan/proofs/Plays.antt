@@ -11,10 +11,10 @@ use Rattle.row_types.specs.declared.tables.TableDef.{TableDef}
 use Rattle.row_types.specs.declared.tables.Schema.{Schema}
 use Rattle.row_types.specs.Valid.{IsValid}
 use Rattle.index_tree.proofs.Elements.{all_weaker}
-use Rattle.find_filter.specs.declared.filters.FilterSpec.{FilterSpec}
-use Rattle.find_filter.specs.declared.finds.InSpec.{InSpec}
-use Rattle.find_filter.specs.declared.finds.FindSpec.{FindSpec}
-use Rattle.find_filter.specs.Fits.{IsOfKind, IsAt, AreAt, AreNumbers, KeyFits, ListFits, FindFitsTable, FindFits}
+use Rattle.request_types.specs.declared.filters.FilterSpec.{FilterSpec}
+use Rattle.request_types.specs.declared.finds.InSpec.{InSpec}
+use Rattle.request_types.specs.declared.finds.FindSpec.{FindSpec}
+use Rattle.request_types.specs.Fits.{IsOfKind, IsAt, AreAt, AreNumbers, KeyFits, ListFits, FindFitsTable, FindFits}
 use Rattle.table_rows.specs.Indexes.{parts_at}
 use Rattle.table_rows.specs.Rows.{State, columns_of}
 use Rattle.find_scan.specs.Examples.{some_columns, some_indexes, some_schema, IsNumber, IsOnNumber, IsList, IsFind}

@@ -1,8 +1,8 @@
 -- One value of a list after another.
 use Rattle.std.proofs.Common.{◌≡◌, ℕ, Bool, true, false, cond, List, ◌∷◌, ◌++◌, map, set, sym, ap, ◌∙◌}
 use Rattle.row_types.specs.declared.values.Value.{Value}
-use Rattle.row_store.specs.Entries.{Entry}
-use Rattle.find_filter.specs.declared.finds.FindSpec.{FindSpec}
+use Rattle.table_rows.specs.Entries.{Entry}
+use Rattle.request_types.specs.declared.finds.FindSpec.{FindSpec}
 use Rattle.table_rows.specs.Rows.{State}
 use Rattle.find_scan.specs.Select.{matching, found}
 use Rattle.find_scan.specs.Gathering.{Gathered, gives, fresh}

@@ -9,12 +9,12 @@ use Rattle.row_types.specs.declared.tables.Schema.{Schema}
 use Rattle.row_types.specs.declared.indexes.IndexDef.{IndexDef}
 use Rattle.row_types.specs.declared.indexes.IndexKind.TheVariants.{Primary, Plain}
 use Rattle.std.specs.List.{AllByRecursion}
-use Rattle.find_filter.specs.declared.finds.FindOp.{FindOp}
-use Rattle.find_filter.specs.declared.finds.FindOp.TheVariants.{Equal}
+use Rattle.request_types.specs.declared.finds.FindOp.{FindOp}
+use Rattle.request_types.specs.declared.finds.FindOp.TheVariants.{Equal}
 use Rattle.table_rows.specs.Indexes.{parts_at}
-use Rattle.find_filter.specs.declared.finds.InSpec.{InSpec}
-use Rattle.find_filter.specs.declared.finds.FindSpec.{FindSpec}
-use Rattle.find_filter.specs.declared.filters.FilterSpec.{FilterSpec}
+use Rattle.request_types.specs.declared.finds.InSpec.{InSpec}
+use Rattle.request_types.specs.declared.finds.FindSpec.{FindSpec}
+use Rattle.request_types.specs.declared.filters.FilterSpec.{FilterSpec}
 use Rattle.table_rows.specs.declared.slot_ref.SlotRef.{SlotRef}
 use Rattle.table_rows.specs.Rows.{State}
 

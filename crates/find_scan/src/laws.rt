@@ -1,7 +1,7 @@
 //! Which rows finds select, by examples.
 ghost use Rattle.std.specs.Prelude.{◌≡◌, [], ◌∷◌, true, false};
-ghost use Rattle.find_filter.specs.declared.finds.FindOp.TheVariants.{Equal, GreaterEqual, LessEqual};
-ghost use Rattle.find_filter.specs.declared.filters.FilterOp.TheVariants as ops;
+ghost use Rattle.request_types.specs.declared.finds.FindOp.TheVariants.{Equal, GreaterEqual, LessEqual};
+ghost use Rattle.request_types.specs.declared.filters.FilterOp.TheVariants as ops;
 ghost use Rattle.find_scan.specs.Select.{selected, slots_of};
 ghost use Rattle.find_scan.specs.Examples.{int, slot, four_rows, find_of, filtered, listed};
 

@@ -1,13 +1,13 @@
 //! A find with a list: one walk for each of its values, in their order.
 ghost use Rattle.std.specs.Prelude.{◌≡◌, ◌<◌, List, [], ◌∷◌, length, set, Some, OnOk, IfOk, if◌then◌else◌};
 ghost use Rattle.row_types.specs.declared.values.Value.{Value};
-ghost use Rattle.find_filter.specs.Fits.{FindFits};
+ghost use Rattle.request_types.specs.Fits.{FindFits};
 ghost use Rattle.find_scan.specs.Select.{found, keys_of};
 ghost use Rattle.find_scan.specs.Gathering.{gives, fresh};
 
 use crate::selection::Selection;
 use crate::walking::scan;
-use find_filter::{FindSpec, InSpec};
+use request_types::{FindSpec, InSpec};
 use row_types::{Value, copy_row, copy_value};
 use std::alloc::{AllocError, Global};
 use std::collections::BTreeSet;

@@ -3,7 +3,7 @@ ghost use Rattle.std.specs.Prelude.{◌≡◌, ◌<◌, ◌^◌, ◌++◌, lengt
 ghost use Rattle.std.specs.List.{All};
 ghost use Rattle.hs_token.specs.Spelling.{behind_tabs};
 ghost use Rattle.hs_token.specs.Steps.{Extends};
-ghost use Rattle.find_filter.specs.Fits.{AreNumbers};
+ghost use Rattle.request_types.specs.Fits.{AreNumbers};
 ghost use Rattle.table_rows.specs.declared.slot_ref.SlotRef.{SlotRef};
 ghost use Rattle.table_rows.specs.Rows.{columns_of};
 ghost use Rattle.table_rows.specs.Slots.{is_live_in};

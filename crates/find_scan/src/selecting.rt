@@ -3,14 +3,14 @@ ghost use Rattle.std.specs.Prelude.{◌≡◌, [], true, OnOk, IfOk};
 ghost use Rattle.std.specs.List.{All};
 ghost use Rattle.table_rows.specs.declared.slot_ref.SlotRef.{SlotRef};
 ghost use Rattle.table_rows.specs.Slots.{is_live_in};
-ghost use Rattle.find_filter.specs.Fits.{FindFits};
+ghost use Rattle.request_types.specs.Fits.{FindFits};
 ghost use Rattle.find_scan.specs.Select.{found, keys_of, selected, slots_of, AreDistinct};
 ghost use Rattle.find_scan.specs.Gathering.{gives};
 
 use crate::listed::scan_each;
 use crate::selection::Selection;
 use crate::walking::scan;
-use find_filter::FindSpec;
+use request_types::FindSpec;
 use std::alloc::{AllocError, Global};
 use table_rows::{SlotRef, Tables};
 

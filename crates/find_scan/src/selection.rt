@@ -2,10 +2,11 @@
 ghost use Rattle.std.specs.Prelude.{◌≡◌, ◌<◌, List, [], ◌∷◌, length, nat_eq, OnOk};
 ghost use Rattle.std.specs.List.{All};
 ghost use Rattle.row_types.specs.declared.values.Value.{Value};
-ghost use Rattle.row_store.specs.Entries.{Entry};
+ghost use Rattle.table_rows.specs.Entries.{Entry};
 ghost use Rattle.find_scan.specs.Gathering.{with_kept, gives};
 
-use find_filter::{FilterSpec, Step, passes};
+use find_filter::{Step, passes};
+use request_types::FilterSpec;
 use row_types::Row;
 use std::alloc::{AllocError, Global};
 use std::marker::Model;

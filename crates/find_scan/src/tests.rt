@@ -6,7 +6,7 @@ ghost use Rattle.find_scan.specs.Examples.{IsFind, IsPlay};
 mod table;
 
 use super::*;
-use find_filter::{FilterOp, FindOp};
+use request_types::{FilterOp, FindOp};
 use std::alloc::{AllocError, Global};
 use std::test::Fail;
 use table::{filtered, find, four_rows, ids, listed, long_rows, put_long, show, text_rows};

@@ -1,8 +1,8 @@
 //! One walk of a find: the rows that stand to one key as it asks.
 ghost use Rattle.std.specs.Prelude.{◌≡◌, ◌≤◌, List, ◌++◌, length, OnOk};
-ghost use Rattle.row_store.specs.Entries.{Entry, cell_at};
+ghost use Rattle.table_rows.specs.Entries.{Entry, cell_at};
 ghost use Rattle.row_types.specs.Order.{value_cmp};
-ghost use Rattle.find_filter.specs.Fits.{FindFits};
+ghost use Rattle.request_types.specs.Fits.{FindFits};
 ghost use Rattle.table_rows.specs.Rows.{indexes_of};
 ghost use Rattle.table_rows.specs.Indexes.{parts_at};
 ghost use Rattle.table_rows.specs.Valid.{IsValidState};
@@ -10,7 +10,7 @@ ghost use Rattle.find_scan.specs.Select.{matching};
 ghost use Rattle.find_scan.specs.Gathering.{AreWideFor, gives, has_key, front_of, is_equal, bound_of};
 
 use crate::selection::Selection;
-use find_filter::{FilterSpec, FindOp, FindSpec};
+use request_types::{FilterSpec, FindOp, FindSpec};
 use row_types::{Value, cmp_values};
 use std::alloc::AllocError;
 use std::cmp::Ordering;

@@ -12,13 +12,11 @@
 //! the bytes mean is left to the crates above.
 #![tactic(auto)]
 
-mod connections;
 mod copying;
 mod links;
 mod memory_link;
 mod memory_sink;
 mod memory_source;
-mod ports;
 mod sinks;
 mod sources;
 mod streams;
@@ -26,12 +24,11 @@ mod streams;
 mod tests;
 mod writing;
 
-pub use connections::ConnId;
 pub use links::{Link, Recv, Sent};
 pub use memory_link::MemLink;
 pub use memory_sink::MemSink;
 pub use memory_source::MemSource;
-pub use ports::Port;
+pub use request_types::{ConnId, Port};
 pub use sinks::{Failed, Sink, Wrote};
 pub use sources::{Read, Source};
 pub use streams::{StreamSink, StreamSource};

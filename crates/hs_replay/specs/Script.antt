@@ -4,8 +4,8 @@ use Rattle.std.specs.Str.{bytes_eq}
 use Rattle.std.specs.List.{list_all, list_any}
 use Rattle.hs_line.specs.Lines.{lines_of, rest_of}
 use Rattle.hs_token.specs.declared.tokens.Token.{Token}
-use Rattle.hs_outside.specs.declared.ports.Port.{Port}
-use Rattle.hs_outside.specs.declared.ports.Port.TheVariants as ports
+use Rattle.request_types.specs.declared.ports.Port.{Port}
+use Rattle.request_types.specs.declared.ports.Port.TheVariants as ports
 use Rattle.row_types.specs.declared.tables.TableDef.{TableDef}
 use Rattle.row_types.specs.declared.tables.Schema.{Schema}
 use Rattle.hs_schema.specs.Reading.{Breach}

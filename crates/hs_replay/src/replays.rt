@@ -12,7 +12,8 @@ ghost use Rattle.hs_replay.specs.Running.{EventDoes, PrintDoes, TableDoes};
 
 use crate::ends::{Flaw, Outcome};
 use crate::secrets::{copy_secrets, has_secret, no_secrets, set_secret};
-use hs_outside::{Port, Sink, write_all};
+use hs_outside::{Sink, write_all};
+use request_types::Port;
 use hs_schema::{SchemaFault, SchemaLines, empty};
 use hs_token::Token;
 use line_pipeline::{MAX_CONNS, Secrets};

@@ -3,7 +3,7 @@ ghost use Rattle.std.specs.Prelude.{◌≡◌, None, is_some, IfOk};
 ghost use Rattle.line_pipeline.specs.Conn.{secret_of};
 ghost use Rattle.hs_replay.specs.Script.{with_secret};
 
-use hs_outside::Port;
+use request_types::Port;
 use line_pipeline::Secrets;
 use row_types::ByteText;
 use std::alloc::{AllocError, Global};

@@ -3,7 +3,7 @@ use Rattle.std.proofs.Common.{◌≡◌, ◌≢◌, ℕ, zero, suc, ◌+◌, ◌
 use Rattle.std.specs.List.{AllByRecursion, count_by}
 use Rattle.std.proofs.lemmas.List.Sums.{sum_by-cons}
 use Rattle.std.proofs.lemmas.Bool.{ne_eqb, eq-eqb}
-use Rattle.hs_outside.specs.declared.connections.ConnId.{ConnId}
+use Rattle.request_types.specs.declared.connections.ConnId.{ConnId}
 use Rattle.line_pipeline.specs.declared.conns.Conn.{Conn}
 use Rattle.line_pipeline.specs.declared.slots.Slot.{Slot}
 use Rattle.line_pipeline.specs.Table.{same_id, without, Joins}

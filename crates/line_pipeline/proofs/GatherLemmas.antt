@@ -5,9 +5,9 @@ use Rattle.std.specs.List.{filter}
 use Rattle.std.proofs.lemmas.Bool.{cases_Bool}
 use Rattle.hs_line.specs.Lines.{has_lf}
 use Rattle.hs_line.proofs.WholeLines.{whole-none}
-use Rattle.hs_outside.specs.declared.connections.ConnId.{ConnId}
+use Rattle.request_types.specs.declared.connections.ConnId.{ConnId}
 use Rattle.row_types.specs.declared.tables.Schema.{Schema}
-use Rattle.line_pipeline.specs.declared.batches.Item.{Item}
+use Rattle.request_types.specs.declared.batches.Item.{Item}
 use Rattle.line_pipeline.specs.declared.conns.Conn.{Conn}
 use Rattle.line_pipeline.specs.declared.conns.Conn.TheVariants as conns
 use Rattle.line_pipeline.specs.declared.reasons.Reason.TheVariants as reasons

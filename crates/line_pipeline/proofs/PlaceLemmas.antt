@@ -3,10 +3,10 @@ use Rattle.std.proofs.Common.{◌≡◌, ℕ, Bool, true, false, ◌||◌, List,
 use Rattle.std.specs.Prelude.{nat_lt, IsSomeAnd}
 use Rattle.std.specs.List.{AllByRecursion}
 use Rattle.std.proofs.lemmas.Bool.{cases_Bool, lt-ltb, or_left, or_right}
-use Rattle.hs_outside.specs.declared.connections.ConnId.{ConnId}
+use Rattle.request_types.specs.declared.connections.ConnId.{ConnId}
 use Rattle.row_types.specs.declared.tables.Schema.{Schema}
-use Rattle.line_pipeline.specs.declared.batches.Item.{Item}
-use Rattle.line_pipeline.specs.declared.batches.ItemKind.{ItemKind}
+use Rattle.request_types.specs.declared.batches.Item.{Item}
+use Rattle.request_types.specs.declared.batches.ItemKind.{ItemKind}
 use Rattle.line_pipeline.specs.declared.conns.Conn.{Conn}
 use Rattle.line_pipeline.specs.declared.conns.Conn.TheVariants as conns
 use Rattle.line_pipeline.specs.Live.{Live, taken_lines, kinds_of, item_of}

@@ -1,11 +1,11 @@
 -- A connection, live or closed, and what each call makes of it.
 use Rattle.std.specs.Prelude.{◌≡◌, ◌≤◌, ⊤, ℕ, Bool, true, false, List, [], ◌++◌, length, drop, Option, Some, None, IfSome, if◌then◌else◌}
 use Rattle.hs_line.specs.Lines.{has_lf}
-use Rattle.hs_outside.specs.declared.ports.Port.{Port}
-use Rattle.hs_outside.specs.declared.ports.Port.TheVariants as ports
-use Rattle.hs_outside.specs.declared.connections.ConnId.{ConnId}
+use Rattle.request_types.specs.declared.ports.Port.{Port}
+use Rattle.request_types.specs.declared.ports.Port.TheVariants as ports
+use Rattle.request_types.specs.declared.connections.ConnId.{ConnId}
 use Rattle.row_types.specs.declared.tables.Schema.{Schema}
-use Rattle.line_pipeline.specs.declared.batches.Item.{Item}
+use Rattle.request_types.specs.declared.batches.Item.{Item}
 use Rattle.line_pipeline.specs.declared.changes.Change.{Change}
 use Rattle.line_pipeline.specs.declared.changes.Change.TheVariants as changes
 use Rattle.line_pipeline.specs.declared.conns.Conn.{Conn}

@@ -2,17 +2,17 @@
 use Rattle.std.specs.Prelude.{ℕ, ◌-◌, ◌&&◌, ◌||◌, Bool, false, not, List, [], ◌∷◌, length, take, drop, nat_lt, map, Option, Some, None, if◌then◌else◌}
 use Rattle.hs_line.specs.Lines.{whole_lines, is_too_long, has_lf, joined}
 use Rattle.hs_line.specs.declared.limits.TheConstants.{BUFFER_SIZE}
-use Rattle.hs_outside.specs.declared.ports.Port.{Port}
-use Rattle.hs_outside.specs.declared.connections.ConnId.{ConnId}
+use Rattle.request_types.specs.declared.ports.Port.{Port}
+use Rattle.request_types.specs.declared.connections.ConnId.{ConnId}
 use Rattle.row_types.specs.declared.tables.Schema.{Schema}
 use Rattle.open_index.specs.declared.handles.Handle.{Handle}
 use Rattle.open_index.specs.declared.requests.Auth.{Auth}
 use Rattle.open_index.specs.declared.requests.Resolved.{Resolved}
 use Rattle.open_index.specs.declared.requests.Resolved.TheVariants as became
 use Rattle.open_index.specs.Line.{reads}
-use Rattle.line_pipeline.specs.declared.batches.Item.{Item}
-use Rattle.line_pipeline.specs.declared.batches.ItemKind.{ItemKind}
-use Rattle.line_pipeline.specs.declared.batches.ItemKind.TheVariants as kinds
+use Rattle.request_types.specs.declared.batches.Item.{Item}
+use Rattle.request_types.specs.declared.batches.ItemKind.{ItemKind}
+use Rattle.request_types.specs.declared.batches.ItemKind.TheVariants as kinds
 use Rattle.line_pipeline.specs.declared.reasons.Reason.{Reason}
 use Rattle.line_pipeline.specs.declared.reasons.Reason.TheVariants as reasons
 use Rattle.line_pipeline.specs.declared.limits.TheConstants.{MAX_UNSENT, MAX_LINES}

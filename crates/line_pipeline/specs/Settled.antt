@@ -1,11 +1,11 @@
 -- What becomes of the connections of a batch.
 use Rattle.std.specs.Prelude.{◌≡◌, true, List, [], ◌∷◌, map, IsSomeAnd, if◌then◌else◌}
 use Rattle.std.specs.List.{AllByRecursion, list_all}
-use Rattle.hs_outside.specs.declared.connections.ConnId.{ConnId}
-use Rattle.line_pipeline.specs.declared.batches.Batch.{Batch}
-use Rattle.line_pipeline.specs.declared.batches.Part.{Part}
-use Rattle.line_pipeline.specs.declared.batches.Outcome.{Outcome}
-use Rattle.line_pipeline.specs.declared.batches.Outcome.TheVariants as outcomes
+use Rattle.request_types.specs.declared.connections.ConnId.{ConnId}
+use Rattle.request_types.specs.declared.batches.Batch.{Batch}
+use Rattle.request_types.specs.declared.batches.Part.{Part}
+use Rattle.line_pipeline.specs.declared.outcomes.Outcome.{Outcome}
+use Rattle.line_pipeline.specs.declared.outcomes.Outcome.TheVariants as outcomes
 use Rattle.line_pipeline.specs.declared.conns.Conn.{Conn}
 use Rattle.line_pipeline.specs.declared.reasons.Reason.TheVariants as reasons
 use Rattle.line_pipeline.specs.Conn.{answered, place_used, closed, has_place}
@@ -32,7 +32,6 @@ all_told parts cs = map (λ c. (c.0, told parts c)) cs
 abbrev pub settled : List (ConnId × Conn) → Batch → Outcome → List (ConnId × Conn)
 settled cs batch (outcomes.Done replies) = all_changed (asked_by batch) place_used (all_told replies.parts cs)
 settled cs batch outcomes.DiskFault = all_changed (asked_by batch) (closed reasons.BatchDisk) cs
-settled cs batch outcomes.LogFull = all_changed (asked_by batch) (closed reasons.LogFull) cs
 settled cs batch outcomes.NoMemory = all_changed (asked_by batch) (closed reasons.BatchMemory) cs
 
 -- This connection is held, and a text can join its output.

@@ -1,6 +1,6 @@
 -- How connections stand under their numbers. No public clause cites this file.
 use Rattle.std.specs.Prelude.{ℕ, ◌+◌, List, [], ◌∷◌, Option, Some, None}
-use Rattle.hs_outside.specs.declared.connections.ConnId.{ConnId}
+use Rattle.request_types.specs.declared.connections.ConnId.{ConnId}
 use Rattle.line_pipeline.specs.declared.conns.Conn.{Conn}
 use Rattle.line_pipeline.specs.declared.slots.Slot.{Slot}
 

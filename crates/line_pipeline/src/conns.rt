@@ -3,11 +3,10 @@ ghost use Rattle.std.specs.Prelude.{◌≡◌, ◌≤◌, [], ◌++◌, true, So
 ghost use Rattle.open_index.specs.Open.{IsNumbered};
 ghost use Rattle.line_pipeline.specs.Output.{IsFront};
 
-use crate::batches::Item;
 use crate::changes::Change;
 use crate::lives::LiveConn;
 use crate::reasons::{ConnState, Reason};
-use hs_outside::ConnId;
+use request_types::{ConnId, Item};
 use row_types::{ByteText, List, Schema};
 use std::alloc::{AllocError, Global};
 

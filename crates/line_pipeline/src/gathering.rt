@@ -7,11 +7,10 @@ ghost use Rattle.line_pipeline.specs.Gathered.{items_at, batch_of, is_asking, Ar
 ghost use Rattle.line_pipeline.specs.Settled.{asked_by, HasPlace};
 ghost use Rattle.line_pipeline.specs.declared.reasons.Reason.TheVariants as reasons;
 
-use crate::batches::{Batch, Item};
 use crate::changes::Change;
 use crate::reasons::Reason;
 use crate::tables::ConnTable;
-use hs_outside::ConnId;
+use request_types::{Batch, ConnId, Item};
 use row_types::List;
 use std::alloc::{AllocError, Global};
 

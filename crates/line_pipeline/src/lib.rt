@@ -10,12 +10,12 @@
 //! What a line means is left to `open_index`, and running a batch and moving bytes to other crates.
 #![tactic(auto)]
 
-mod batches;
 mod changes;
 mod conns;
 mod gathering;
 mod limits;
 mod lives;
+mod outcomes;
 mod outputs;
 mod reading;
 mod reasons;
@@ -27,9 +27,9 @@ mod taking;
 #[cfg(test)]
 mod tests;
 
-pub use batches::{Batch, Item, ItemKind, Outcome, Part, Replies};
-pub use hs_outside::ConnId;
 pub use limits::{MAX_CONNS, MAX_LINES, MAX_UNSENT};
+pub use outcomes::Outcome;
 pub use reasons::{AddFault, ConnState, Reason};
+pub use request_types::{Batch, ConnId, Item, ItemKind, Part, Replies};
 pub use secrets::Secrets;
 pub use tables::{ConnTable, conns_new};

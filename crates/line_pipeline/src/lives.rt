@@ -5,14 +5,13 @@ ghost use Rattle.hs_line.specs.Lines.{has_lf};
 ghost use Rattle.line_pipeline.specs.Output.{IsFront};
 ghost use Rattle.line_pipeline.specs.Live.{fresh, room_of, items_of, took, ending};
 
-use crate::batches::Item;
 use crate::limits::MAX_LINES;
 use crate::outputs::Output;
 use crate::reading::{Reader, read_lines};
 use crate::reasons::Reason;
 use crate::taking::take_lines;
 use hs_line::LineBuf;
-use hs_outside::{ConnId, Port};
+use request_types::{ConnId, Item, Port};
 use open_index::{Auth, Handles, handles_new};
 use row_types::{ByteText, List, Schema};
 use std::alloc::{AllocError, Global};

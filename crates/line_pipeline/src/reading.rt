@@ -3,9 +3,8 @@ ghost use Rattle.std.specs.Prelude.{◌≡◌, ◌++◌, map, OnOk, IfOk};
 ghost use Rattle.open_index.specs.Open.{IsNumbered};
 ghost use Rattle.line_pipeline.specs.Live.{kind_of, kinds_of, left_by, item_of};
 
-use crate::batches::{Item, ItemKind};
 use bytes::Bytes;
-use hs_outside::{ConnId, Port};
+use request_types::{ConnId, Item, ItemKind, Port};
 use open_index::{Auth, Handles, Resolved, resolve};
 use row_types::{List, Schema};
 use std::alloc::{AllocError, Global};

@@ -12,7 +12,6 @@ pub enum Reason {
     TooLong,
     BatchDisk,
     BatchMemory,
-    LogFull,
 }
 
 /// Whether a connection is closed, and why.

@@ -5,7 +5,8 @@ ghost use Rattle.line_pipeline.specs.Conn.{place_used, closed};
 ghost use Rattle.line_pipeline.specs.Table.{are_once, all_changed};
 ghost use Rattle.line_pipeline.specs.Settled.{asked_by, answered_by, all_told, settled, parts_of, HasPlace, CanSettle};
 
-use crate::batches::{Batch, Item, Outcome, Part};
+use crate::outcomes::Outcome;
+use request_types::{Batch, Item, Part};
 use crate::changes::Change;
 use crate::reasons::Reason;
 use crate::tables::ConnTable;
@@ -24,7 +25,6 @@ impl ConnTable {
                 self.use_places(items);
             }
             Outcome::DiskFault => self.close_items(items, Reason::BatchDisk),
-            Outcome::LogFull => self.close_items(items, Reason::LogFull),
             Outcome::NoMemory => self.close_items(items, Reason::BatchMemory),
         }
     }

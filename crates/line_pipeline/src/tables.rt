@@ -16,7 +16,7 @@ use crate::lives::LiveConn;
 use crate::reasons::{AddFault, ConnState, Reason};
 use crate::secrets::Secrets;
 use crate::slots::Slot;
-use hs_outside::{ConnId, Port};
+use request_types::{ConnId, Port};
 use row_types::{ByteText, Schema};
 use slab::Slab;
 use std::alloc::{AllocError, Global};

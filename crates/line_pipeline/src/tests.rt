@@ -5,7 +5,7 @@ ghost use Rattle.line_pipeline.specs.Table.{are_once, is_listed};
 ghost use Rattle.line_pipeline.specs.Settled.{asked_by, answered_by, parts_of};
 
 use super::*;
-use hs_outside::Port;
+use request_types::Port;
 use row_types::{ByteText, List, Schema};
 use std::alloc::{AllocError, Global};
 use std::process::Abort;
@@ -73,7 +73,6 @@ fn failed(reason: Reason) -> Outcome
 {
     match reason {
         Reason::BatchDisk => Outcome::DiskFault,
-        Reason::LogFull => Outcome::LogFull,
         _ => Outcome::NoMemory,
     }
 }
@@ -187,7 +186,7 @@ fn replies_wait_in_their_order(rt: HostRuntime) -> Result<(), Fail> {
 #[test]
 fn a_batch_that_was_not_done_closes_its_connections(rt: HostRuntime) -> Result<(), Fail> {
     let alloc = rt.alloc();
-    for reason in [Reason::BatchDisk, Reason::LogFull, Reason::BatchMemory] {
+    for reason in [Reason::BatchDisk, Reason::BatchMemory] {
         let mut table = connections(alloc)?;
         let conn = added(&rt, alloc, &mut table, Port::Writing);
         let other = added(&rt, alloc, &mut table, Port::Writing);

@@ -5,8 +5,8 @@ use Rattle.std.specs.List.{AllByRecursion}
 use Rattle.row_types.specs.declared.values.Value.{Value}
 use Rattle.row_types.specs.declared.columns.Kind.{Kind}
 use Rattle.row_types.specs.declared.columns.Column.{Column}
-use Rattle.find_filter.specs.Fits.{IsAt, AreAt}
-use Rattle.find_filter.proofs.FitFacts.{is_within}
+use Rattle.request_types.specs.Fits.{IsAt, AreAt}
+use Rattle.request_types.proofs.FitFacts.{is_within}
 use Rattle.open_index.specs.declared.handles.OpenColumn.{OpenColumn}
 use Rattle.open_index.specs.Find.{numbers}
 use Rattle.open_index.specs.Fits.{IsColumnOf}

@@ -1,12 +1,12 @@
 -- Reading a list one item after the other.
 use Rattle.std.proofs.Common.{◌≡◌, ◌∙◌, ℕ, zero, suc, ◌-◌, ◌+◌, ◌<◌, List, [], ◌∷◌, ◌++◌, Some, None, Result, Ok, Err, refl, sym, ap, append_assoc, append-nil, ◌≤◌, arith}
 use Rattle.hs_token.specs.declared.tokens.Token.{Token}
-use Rattle.find_filter.specs.declared.filters.FilterSpec.{FilterSpec}
-use Rattle.open_index.specs.declared.codes.Code.{Code}
-use Rattle.open_index.specs.declared.faults.Fault.{Fault}
-use Rattle.open_index.specs.declared.faults.Fault.TheVariants.{Refused, NoMemory}
+use Rattle.request_types.specs.declared.filters.FilterSpec.{FilterSpec}
+use Rattle.request_types.specs.declared.codes.Code.{Code}
+use Rattle.request_types.specs.declared.faults.Fault.{Fault}
+use Rattle.request_types.specs.declared.faults.Fault.TheVariants.{Refused, NoMemory}
 use Rattle.open_index.specs.declared.handles.OpenColumn.{OpenColumn}
-use Rattle.open_index.specs.Refusal.{◌>>=◌, Fails}
+use Rattle.request_types.specs.Refusal.{◌>>=◌, Fails}
 use Rattle.open_index.specs.Find.{next_filter, then_filters, filters_at}
 
 -- What was read so far, and what is read of the rest.

@@ -4,11 +4,11 @@ use Rattle.std.proofs.lemmas.Bool.{false≢true}
 use Rattle.std.proofs.lemmas.List.{at_drop_all}
 use Rattle.std.specs.List.{slice_split}
 use Rattle.row_types.specs.declared.columns.Column.{Column}
-use Rattle.open_index.specs.declared.codes.Code.{Code}
-use Rattle.open_index.specs.declared.faults.Fault.{Fault}
-use Rattle.open_index.specs.declared.faults.Fault.TheVariants.{Refused, NoMemory}
+use Rattle.request_types.specs.declared.codes.Code.{Code}
+use Rattle.request_types.specs.declared.faults.Fault.{Fault}
+use Rattle.request_types.specs.declared.faults.Fault.TheVariants.{Refused, NoMemory}
 use Rattle.open_index.specs.declared.handles.OpenColumn.{OpenColumn}
-use Rattle.open_index.specs.Refusal.{◌>>=◌, Fails}
+use Rattle.request_types.specs.Refusal.{◌>>=◌, Fails}
 use Rattle.open_index.specs.Open.{names_of, column_onto, columns_onto}
 
 -- The pieces of a text that isn't empty are its names.

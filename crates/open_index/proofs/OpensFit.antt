@@ -11,10 +11,10 @@ use Rattle.row_types.specs.declared.indexes.IndexDef.{IndexDef}
 use Rattle.row_types.specs.declared.tables.TableDef.{TableDef}
 use Rattle.row_types.specs.declared.tables.Schema.{Schema}
 use Rattle.row_types.specs.Valid.{are_distinct, IsIndex, IsTable, IsValid}
-use Rattle.open_index.specs.declared.codes.Code.TheVariants as refused
+use Rattle.request_types.specs.declared.codes.Code.TheVariants as refused
 use Rattle.open_index.specs.declared.handles.Handle.{Handle}
 use Rattle.open_index.specs.declared.handles.OpenColumn.{OpenColumn}
-use Rattle.open_index.specs.Refusal.{or_refuse}
+use Rattle.request_types.specs.Refusal.{or_refuse}
 use Rattle.open_index.specs.Tokens.{u32_at}
 use Rattle.open_index.specs.Open.{table_named, index_named, column_named, names_of, is_listed, column_onto, columns_onto, columns_of, part_of, filter_columns_of, lists_of, handle_by, handle_of, has_room, open_of}
 use Rattle.open_index.specs.Find.{numbers}

@@ -5,22 +5,22 @@ use Rattle.std.specs.List.{AllByRecursion}
 use Rattle.std.proofs.lemmas.Bool.{ltb-false, eqb-false}
 use Rattle.std.proofs.lemmas.List.{length-take-le}
 use Rattle.hs_token.specs.declared.tokens.Token.{Token}
-use Rattle.hs_outside.specs.declared.ports.Port.{Port}
+use Rattle.request_types.specs.declared.ports.Port.{Port}
 use Rattle.row_types.specs.declared.values.Value.{Value}
 use Rattle.row_types.specs.declared.columns.Column.{Column}
 use Rattle.row_types.specs.declared.tables.TableDef.{TableDef}
-use Rattle.find_filter.specs.declared.finds.FindOp.{FindOp}
-use Rattle.find_filter.specs.declared.finds.FindOp.TheVariants as finds
-use Rattle.find_filter.specs.declared.finds.InSpec.{InSpec}
-use Rattle.find_filter.specs.declared.filters.FilterSpec.{FilterSpec}
-use Rattle.find_filter.specs.declared.mods.ModKind.{ModKind}
-use Rattle.find_filter.specs.declared.mods.ModKind.TheVariants as mods
-use Rattle.find_filter.specs.declared.mods.ModSpec.{ModSpec}
-use Rattle.find_filter.specs.Fits.{IsOfKind, IsDelta, IsAt, AreAt, ValuesFit, ModFitsTable}
-use Rattle.find_filter.proofs.FitFacts.{no_more}
-use Rattle.open_index.specs.declared.codes.Code.TheVariants as refused
+use Rattle.request_types.specs.declared.finds.FindOp.{FindOp}
+use Rattle.request_types.specs.declared.finds.FindOp.TheVariants as finds
+use Rattle.request_types.specs.declared.finds.InSpec.{InSpec}
+use Rattle.request_types.specs.declared.filters.FilterSpec.{FilterSpec}
+use Rattle.request_types.specs.declared.mods.ModKind.{ModKind}
+use Rattle.request_types.specs.declared.mods.ModKind.TheVariants as mods
+use Rattle.request_types.specs.declared.mods.ModSpec.{ModSpec}
+use Rattle.request_types.specs.Fits.{IsOfKind, IsDelta, IsAt, AreAt, ValuesFit, ModFitsTable}
+use Rattle.request_types.proofs.FitFacts.{no_more}
+use Rattle.request_types.specs.declared.codes.Code.TheVariants as refused
 use Rattle.open_index.specs.declared.handles.OpenColumn.{OpenColumn}
-use Rattle.open_index.specs.Refusal.{◌>>=◌, or_refuse}
+use Rattle.request_types.specs.Refusal.{◌>>=◌, or_refuse}
 use Rattle.open_index.specs.Tokens.{u32_at, front_at, number_at}
 use Rattle.open_index.specs.Values.{value_of, values_of, values_in}
 use Rattle.open_index.specs.Find.{numbers, count_at, key_at, part_at, list_len_at, list_at, within_at, filter_op, filter_of, filter_at, is_filter, next_filter, then_filters, filters_at, mod_word, mod_values, is_reading, change_of, mod_of}

@@ -4,10 +4,10 @@ use Rattle.std.specs.Ordering.{nat_cmp}
 use Rattle.std.proofs.lemmas.Map.Views.{All-values-insert_entry}
 use Rattle.hs_token.specs.declared.tokens.Token.{Token}
 use Rattle.hs_token.specs.Reading.{line_at}
-use Rattle.hs_outside.specs.declared.ports.Port.{Port}
+use Rattle.request_types.specs.declared.ports.Port.{Port}
 use Rattle.row_types.specs.declared.tables.Schema.{Schema}
 use Rattle.row_types.specs.Valid.{IsValid}
-use Rattle.open_index.specs.declared.codes.Code.TheVariants as refused
+use Rattle.request_types.specs.declared.codes.Code.TheVariants as refused
 use Rattle.open_index.specs.declared.handles.Handle.{Handle}
 use Rattle.open_index.specs.declared.requests.Auth.{Auth}
 use Rattle.open_index.specs.declared.meanings.Meaning.{Meaning}
@@ -16,7 +16,8 @@ use Rattle.open_index.specs.declared.meanings.Command.{Command}
 use Rattle.open_index.specs.declared.meanings.Command.TheVariants as commands
 use Rattle.open_index.specs.Open.{open_of, opened}
 use Rattle.open_index.specs.Line.{command_of, request_of, tells, is_secret, is_locked, command_means, spelled, tokens_mean, line_means}
-use Rattle.open_index.specs.Fits.{HandleFits, HandlesFit, RequestFits}
+use Rattle.open_index.specs.Fits.{HandleFits, HandlesFit}
+use Rattle.request_types.specs.Fits.{RequestFits}
 use Rattle.open_index.proofs.Cases.{bind_ok, guard_ok, need_ok, ok_same}
 use Rattle.open_index.proofs.OpensFit.{open_fits}
 use Rattle.open_index.proofs.RequestsFit.{request_fits}

@@ -9,32 +9,33 @@ use Rattle.std.proofs.lemmas.List.{length-take-le, length-map}
 use Rattle.std.proofs.lemmas.List.Elements.{All-map, All-weaker, All-from_recursion, recursion_from_All, All-take}
 use Rattle.std.proofs.lemmas.Map.Views.{IfSome-lookup_from_All}
 use Rattle.hs_token.specs.declared.tokens.Token.{Token}
-use Rattle.hs_outside.specs.declared.ports.Port.{Port}
+use Rattle.request_types.specs.declared.ports.Port.{Port}
 use Rattle.row_types.specs.declared.values.Value.{Value}
 use Rattle.row_types.specs.declared.columns.Column.{Column}
 use Rattle.row_types.specs.declared.indexes.IndexDef.{IndexDef}
 use Rattle.row_types.specs.declared.tables.TableDef.{TableDef}
 use Rattle.row_types.specs.declared.tables.Schema.{Schema}
 use Rattle.row_types.specs.Valid.{are_distinct}
-use Rattle.find_filter.specs.declared.finds.FindOp.{FindOp}
-use Rattle.find_filter.specs.declared.finds.InSpec.{InSpec}
-use Rattle.find_filter.specs.declared.finds.FindSpec.{FindSpec}
-use Rattle.find_filter.specs.declared.filters.FilterSpec.{FilterSpec}
-use Rattle.find_filter.specs.declared.mods.ModSpec.{ModSpec}
-use Rattle.find_filter.specs.Fits.{IsOfKind, IsAt, AreAt, AreNumbers, ListFits, KeyFits, FindFitsTable, FindFits, ModFits}
-use Rattle.open_index.specs.declared.codes.Code.TheVariants as refused
+use Rattle.request_types.specs.declared.finds.FindOp.{FindOp}
+use Rattle.request_types.specs.declared.finds.InSpec.{InSpec}
+use Rattle.request_types.specs.declared.finds.FindSpec.{FindSpec}
+use Rattle.request_types.specs.declared.filters.FilterSpec.{FilterSpec}
+use Rattle.request_types.specs.declared.mods.ModSpec.{ModSpec}
+use Rattle.request_types.specs.Fits.{IsOfKind, IsAt, AreAt, AreNumbers, ListFits, KeyFits, FindFitsTable, FindFits, ModFits}
+use Rattle.request_types.specs.declared.codes.Code.TheVariants as refused
 use Rattle.open_index.specs.declared.handles.Handle.{Handle}
 use Rattle.open_index.specs.declared.handles.OpenColumn.{OpenColumn}
-use Rattle.open_index.specs.declared.requests.InsertSpec.{InsertSpec}
-use Rattle.open_index.specs.declared.requests.Request.{Request}
-use Rattle.open_index.specs.declared.requests.Request.TheVariants.{Insert}
-use Rattle.open_index.specs.Refusal.{◌>>=◌, or_refuse}
+use Rattle.request_types.specs.declared.inserts.InsertSpec.{InsertSpec}
+use Rattle.request_types.specs.declared.requests.Request.{Request}
+use Rattle.request_types.specs.declared.requests.Request.TheVariants.{Insert}
+use Rattle.request_types.specs.Refusal.{◌>>=◌, or_refuse}
 use Rattle.open_index.specs.Values.{values_of}
 use Rattle.open_index.specs.Open.{stands_for}
 use Rattle.open_index.specs.Find.{numbers, key_at, limit_at, within_at, filters_at, mod_of, asked, found_by, find_op, find_of, is_reading, count_at}
 use Rattle.open_index.specs.Insert.{rest_of, insert_of}
 use Rattle.open_index.specs.Line.{operation_of, request_of}
-use Rattle.open_index.specs.Fits.{IsColumnOf, HandleFitsTable, HandleFits, HandlesFit, InsertFitsTable, InsertFits, RequestFits}
+use Rattle.open_index.specs.Fits.{IsColumnOf, HandleFitsTable, HandleFits, HandlesFit}
+use Rattle.request_types.specs.Fits.{InsertFitsTable, InsertFits, RequestFits}
 use Rattle.open_index.proofs.Cases.{bind_ok, guard_ok, need_ok, refuse_ok, ok_same, some_same, or_false, and_true, not_true, some_then, all_get}
 use Rattle.open_index.proofs.ColumnFits.{AreOf, is_at, at_front, in_range}
 use Rattle.open_index.proofs.ValueFits.{values_count, values_fit}

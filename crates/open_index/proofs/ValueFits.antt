@@ -13,8 +13,8 @@ use Rattle.row_types.specs.declared.values.Value.TheVariants as values
 use Rattle.row_types.specs.declared.columns.Kind.{Kind}
 use Rattle.row_types.specs.declared.columns.Kind.TheVariants as kinds
 use Rattle.row_types.specs.declared.columns.Column.{Column}
-use Rattle.find_filter.specs.Fits.{IsOfKind, IsDelta, AreAt}
-use Rattle.open_index.specs.declared.codes.Code.TheVariants as refused
+use Rattle.request_types.specs.Fits.{IsOfKind, IsDelta, AreAt}
+use Rattle.request_types.specs.declared.codes.Code.TheVariants as refused
 use Rattle.open_index.specs.declared.handles.OpenColumn.{OpenColumn}
 use Rattle.open_index.specs.Tokens.{i64_at}
 use Rattle.open_index.specs.Values.{value_of, values_of, values_in, delta_of, deltas_of}

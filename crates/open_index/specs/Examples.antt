@@ -1,6 +1,6 @@
 -- A schema, open ids and lines, written out.
 use Rattle.std.specs.Prelude.{ℕ, List, [], ◌∷◌, codes, Some, None, true, false, pos}
-use Rattle.hs_outside.specs.declared.ports.Port.TheVariants.{Writing}
+use Rattle.request_types.specs.declared.ports.Port.TheVariants.{Writing}
 use Rattle.row_types.specs.declared.columns.Column.{Column}
 use Rattle.row_types.specs.declared.columns.Kind.TheVariants.{Int, Bytes}
 use Rattle.row_types.specs.declared.indexes.IndexDef.{IndexDef}

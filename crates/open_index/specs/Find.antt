@@ -1,26 +1,26 @@
 -- Reading a find, part by part: `<vlen> <v1>..<vn> [LIM] [IN] [FILTER ..] [MOD]`.
 use Rattle.std.specs.Prelude.{ℕ, zero, suc, List, [], ◌∷◌, length, map, take, codes, slice_get, Option, Some, None, Result, Ok, Err, Bool, true, false, ◌==◌, ◌||◌, nat_lt, if◌then◌else◌}
 use Rattle.hs_token.specs.declared.tokens.Token.{Token}
-use Rattle.hs_outside.specs.declared.ports.Port.{Port}
-use Rattle.hs_outside.specs.declared.ports.Port.TheVariants as ports
+use Rattle.request_types.specs.declared.ports.Port.{Port}
+use Rattle.request_types.specs.declared.ports.Port.TheVariants as ports
 use Rattle.row_types.specs.declared.values.Value.{Value}
-use Rattle.find_filter.specs.declared.finds.FindOp.{FindOp}
-use Rattle.find_filter.specs.declared.finds.FindOp.TheVariants as finds
-use Rattle.find_filter.specs.declared.finds.InSpec.{InSpec}
-use Rattle.find_filter.specs.declared.finds.FindSpec.{FindSpec}
-use Rattle.find_filter.specs.declared.filters.FilterOp.{FilterOp}
-use Rattle.find_filter.specs.declared.filters.FilterOp.TheVariants as tests
-use Rattle.find_filter.specs.declared.filters.FilterSpec.{FilterSpec}
-use Rattle.find_filter.specs.declared.mods.ModKind.{ModKind}
-use Rattle.find_filter.specs.declared.mods.ModKind.TheVariants as mods
-use Rattle.find_filter.specs.declared.mods.ModSpec.{ModSpec}
-use Rattle.open_index.specs.declared.codes.Code.{Code}
-use Rattle.open_index.specs.declared.codes.Code.TheVariants as refused
+use Rattle.request_types.specs.declared.finds.FindOp.{FindOp}
+use Rattle.request_types.specs.declared.finds.FindOp.TheVariants as finds
+use Rattle.request_types.specs.declared.finds.InSpec.{InSpec}
+use Rattle.request_types.specs.declared.finds.FindSpec.{FindSpec}
+use Rattle.request_types.specs.declared.filters.FilterOp.{FilterOp}
+use Rattle.request_types.specs.declared.filters.FilterOp.TheVariants as tests
+use Rattle.request_types.specs.declared.filters.FilterSpec.{FilterSpec}
+use Rattle.request_types.specs.declared.mods.ModKind.{ModKind}
+use Rattle.request_types.specs.declared.mods.ModKind.TheVariants as mods
+use Rattle.request_types.specs.declared.mods.ModSpec.{ModSpec}
+use Rattle.request_types.specs.declared.codes.Code.{Code}
+use Rattle.request_types.specs.declared.codes.Code.TheVariants as refused
 use Rattle.open_index.specs.declared.handles.Handle.{Handle}
 use Rattle.open_index.specs.declared.handles.OpenColumn.{OpenColumn}
-use Rattle.open_index.specs.declared.requests.Request.{Request}
-use Rattle.open_index.specs.declared.requests.Request.TheVariants.{Find, Modify}
-use Rattle.open_index.specs.Refusal.{◌>>=◌, or_refuse}
+use Rattle.request_types.specs.declared.requests.Request.{Request}
+use Rattle.request_types.specs.declared.requests.Request.TheVariants.{Find, Modify}
+use Rattle.request_types.specs.Refusal.{◌>>=◌, or_refuse}
 use Rattle.open_index.specs.Tokens.{is_word, u32_at, number_at, front_at}
 use Rattle.open_index.specs.Values.{value_of, values_of, values_in, deltas_of}
 

@@ -6,12 +6,9 @@ use Rattle.row_types.specs.declared.columns.Column.{Column}
 use Rattle.row_types.specs.declared.tables.TableDef.{TableDef}
 use Rattle.row_types.specs.declared.tables.Schema.{Schema}
 use Rattle.row_types.specs.Valid.{are_distinct}
-use Rattle.find_filter.specs.Fits.{IsOfKind, AreAt, AreNumbers, FindFits, ModFits}
+use Rattle.request_types.specs.Fits.{RequestFits}
 use Rattle.open_index.specs.declared.handles.Handle.{Handle}
 use Rattle.open_index.specs.declared.handles.OpenColumn.{OpenColumn}
-use Rattle.open_index.specs.declared.requests.InsertSpec.{InsertSpec}
-use Rattle.open_index.specs.declared.requests.Request.{Request}
-use Rattle.open_index.specs.declared.requests.Request.TheVariants.{Find, Modify, Insert}
 use Rattle.open_index.specs.declared.requests.Resolved.{Resolved}
 use Rattle.open_index.specs.declared.requests.Resolved.TheVariants.{Reply, Opened, Authed, Ask}
 use Rattle.open_index.specs.Find.{numbers}
@@ -36,24 +33,6 @@ HandleFits schema h = IsSomeAnd (slice_get schema.tables h.table) (λ t. HandleF
 -- What each open id stands for fits the schema.
 abbrev pub HandlesFit : Schema → List (ℕ × Handle) → Type 0
 HandlesFit schema handles = All (HandleFits schema) (values_of handles)
-
--- A row to be inserted names columns of its table, and has a value for each of them.
-pub record InsertFitsTable (table : TableDef) (spec : InsertSpec) : Type 0 where
-  pub count : length spec.values ≡ length spec.columns
-  pub columns : AreNumbers table.columns spec.columns
-  pub values : AreAt IsOfKind table.columns spec.columns spec.values
-
--- An insert fits a schema that has its table.
-abbrev pub InsertFits : Schema → InsertSpec → Type 0
-InsertFits schema spec =
-    IsSomeAnd (slice_get schema.tables spec.table) (λ t. InsertFitsTable t spec)
-
--- What is asked of the tables fits their schema.
-abbrev pub RequestFits : Schema → Request → Type 0
-RequestFits schema (Find find) = FindFits schema find
-RequestFits schema (Modify find change) =
-    FindFits schema find × ModFits schema find.table find.columns change
-RequestFits schema (Insert insert) = InsertFits schema insert
 
 -- What becomes of a line fits a schema where it asks for what does.
 abbrev pub ResolvedFits : Schema → Resolved → Type 0

@@ -1,13 +1,13 @@
 -- Reading an insert behind its operator: `<vlen> <v1>..<vn>`.
 use Rattle.std.specs.Prelude.{ℕ, List, length, take, Result, Ok, Err, ◌==◌, if◌then◌else◌}
 use Rattle.hs_token.specs.declared.tokens.Token.{Token}
-use Rattle.hs_outside.specs.declared.ports.Port.{Port}
-use Rattle.open_index.specs.declared.codes.Code.{Code}
-use Rattle.open_index.specs.declared.codes.Code.TheVariants as refused
+use Rattle.request_types.specs.declared.ports.Port.{Port}
+use Rattle.request_types.specs.declared.codes.Code.{Code}
+use Rattle.request_types.specs.declared.codes.Code.TheVariants as refused
 use Rattle.open_index.specs.declared.handles.Handle.{Handle}
-use Rattle.open_index.specs.declared.requests.Request.{Request}
-use Rattle.open_index.specs.declared.requests.Request.TheVariants.{Insert}
-use Rattle.open_index.specs.Refusal.{◌>>=◌}
+use Rattle.request_types.specs.declared.requests.Request.{Request}
+use Rattle.request_types.specs.declared.requests.Request.TheVariants.{Insert}
+use Rattle.request_types.specs.Refusal.{◌>>=◌}
 use Rattle.open_index.specs.Values.{values_of}
 use Rattle.open_index.specs.Find.{is_reading, count_at, numbers}
 

@@ -1,5 +1,3 @@
-pub mod Code
-pub mod Refusal
 pub mod Tokens
 pub mod Values
 pub mod Open

@@ -2,21 +2,21 @@
 use Rattle.std.specs.Prelude.{ℕ, List, [], ◌∷◌, codes, Option, Some, None, Result, Ok, Err, Bool, true, not, ◌&&◌, is_some, if◌then◌else◌}
 use Rattle.hs_token.specs.declared.tokens.Token.{Token}
 use Rattle.hs_token.specs.Reading.{line_at}
-use Rattle.hs_outside.specs.declared.ports.Port.{Port}
+use Rattle.request_types.specs.declared.ports.Port.{Port}
 use Rattle.row_types.specs.declared.tables.Schema.{Schema}
-use Rattle.open_index.specs.declared.codes.Code.{Code}
-use Rattle.open_index.specs.declared.codes.Code.TheVariants as refused
+use Rattle.request_types.specs.declared.codes.Code.{Code}
+use Rattle.request_types.specs.declared.codes.Code.TheVariants as refused
 use Rattle.open_index.specs.declared.handles.Handle.{Handle}
 use Rattle.open_index.specs.declared.requests.Auth.{Auth}
-use Rattle.open_index.specs.declared.requests.Request.{Request}
+use Rattle.request_types.specs.declared.requests.Request.{Request}
 use Rattle.open_index.specs.declared.requests.Resolved.{Resolved}
 use Rattle.open_index.specs.declared.requests.Resolved.TheVariants as became
 use Rattle.open_index.specs.declared.meanings.Meaning.{Meaning}
 use Rattle.open_index.specs.declared.meanings.Meaning.TheVariants as means
 use Rattle.open_index.specs.declared.meanings.Command.{Command}
 use Rattle.open_index.specs.declared.meanings.Command.TheVariants as commands
-use Rattle.open_index.specs.Code.{number}
-use Rattle.open_index.specs.Refusal.{◌>>=◌, or_refuse}
+use Rattle.request_types.specs.Code.{number}
+use Rattle.request_types.specs.Refusal.{◌>>=◌, or_refuse}
 use Rattle.open_index.specs.Tokens.{is_word, u32_at}
 use Rattle.open_index.specs.Open.{stands_for, opened, open_of}
 use Rattle.open_index.specs.Find.{find_op, find_of}

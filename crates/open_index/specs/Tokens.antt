@@ -4,9 +4,9 @@ use Rattle.std.specs.Cmp.Lexicographic.{pointwise}
 use Rattle.hs_token.specs.declared.tokens.Token.{Token}
 use Rattle.hs_token.specs.declared.tokens.Token.TheVariants.{Null, Text}
 use Rattle.hs_token.specs.Number.{u32_of, i64_of}
-use Rattle.open_index.specs.declared.codes.Code.{Code}
-use Rattle.open_index.specs.declared.codes.Code.TheVariants.{Args}
-use Rattle.open_index.specs.Refusal.{◌>>=◌, or_refuse}
+use Rattle.request_types.specs.declared.codes.Code.{Code}
+use Rattle.request_types.specs.declared.codes.Code.TheVariants.{Args}
+use Rattle.request_types.specs.Refusal.{◌>>=◌, or_refuse}
 
 -- Whether a token is this text.
 abbrev pub is_word : List ℕ → Token → Bool

@@ -7,10 +7,10 @@ use Rattle.row_types.specs.declared.columns.Kind.{Kind}
 use Rattle.row_types.specs.declared.columns.Kind.TheVariants as kinds
 use Rattle.row_types.specs.declared.values.Value.{Value}
 use Rattle.row_types.specs.declared.values.Value.TheVariants as values
-use Rattle.open_index.specs.declared.codes.Code.{Code}
-use Rattle.open_index.specs.declared.codes.Code.TheVariants as refused
+use Rattle.request_types.specs.declared.codes.Code.{Code}
+use Rattle.request_types.specs.declared.codes.Code.TheVariants as refused
 use Rattle.open_index.specs.declared.handles.OpenColumn.{OpenColumn}
-use Rattle.open_index.specs.Refusal.{◌>>=◌, or_refuse}
+use Rattle.request_types.specs.Refusal.{◌>>=◌, or_refuse}
 use Rattle.open_index.specs.Tokens.{i64_at}
 
 -- A value for a column of this kind: NULL, or for integers the number that is written, and for texts the text, however long.

@@ -1,15 +1,12 @@
 //! MOD: what happens to the rows that a find selects.
 ghost use Rattle.std.specs.Prelude.{◌≡◌, ◌≤◌, length};
-ghost use Rattle.open_index.specs.Refusal.{Gives};
+ghost use Rattle.request_types.specs.Refusal.{Gives};
 ghost use Rattle.open_index.specs.Find.{mod_word, mod_values, is_reading, change_of, mod_of};
 
-use crate::codes::Code;
-use crate::faults::Fault;
 use crate::handles::OpenColumn;
 use crate::tokens::is_word;
 use crate::values::{deltas_of, values_of};
-use find_filter::{ModKind, ModSpec};
-use hs_outside::Port;
+use request_types::{Code, Fault, ModKind, ModSpec, Port};
 use hs_token::Token;
 use row_types::{List, Value};
 use std::alloc::Global;

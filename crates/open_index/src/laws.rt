@@ -1,11 +1,11 @@
 //! Lines and what becomes of them, written out.
 ghost use Rattle.std.specs.Prelude.{◌≡◌, [], ◌∷◌, ◌++◌, pos, negsuc, codes, Some, None, true, false};
-ghost use Rattle.hs_outside.specs.declared.ports.Port.TheVariants.{Reading, Writing};
+ghost use Rattle.request_types.specs.declared.ports.Port.TheVariants.{Reading, Writing};
 ghost use Rattle.row_types.specs.declared.values.Value.TheVariants.{Null, Int};
-ghost use Rattle.find_filter.specs.declared.finds.FindOp.TheVariants as finds;
-ghost use Rattle.find_filter.specs.declared.filters.FilterOp.TheVariants as tests;
-ghost use Rattle.find_filter.specs.declared.mods.ModKind.TheVariants as mods;
-ghost use Rattle.open_index.specs.declared.requests.Request.TheVariants.{Find, Modify, Insert};
+ghost use Rattle.request_types.specs.declared.finds.FindOp.TheVariants as finds;
+ghost use Rattle.request_types.specs.declared.filters.FilterOp.TheVariants as tests;
+ghost use Rattle.request_types.specs.declared.mods.ModKind.TheVariants as mods;
+ghost use Rattle.request_types.specs.declared.requests.Request.TheVariants.{Find, Modify, Insert};
 ghost use Rattle.open_index.specs.declared.requests.Resolved.TheVariants.{Reply, Opened, Authed, Ask};
 ghost use Rattle.row_types.specs.declared.tables.Schema.{Schema};
 ghost use Rattle.row_types.specs.Valid.{IsValid};

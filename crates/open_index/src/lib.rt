@@ -13,8 +13,6 @@
 #![tactic(auto)]
 
 mod changes;
-mod codes;
-mod faults;
 mod handles;
 mod laws;
 mod lines;
@@ -28,8 +26,8 @@ mod tests;
 mod tokens;
 mod values;
 
-pub use codes::Code;
 pub use handles::{Handle, Handles, MOST_OPEN, OpenColumn, handles_new};
 pub use laws::{example_refusals, example_requests, example_states, schemas_that_fit};
 pub use lines::resolve;
-pub use requests::{Auth, InsertSpec, Request, Resolved};
+pub use request_types::{Code, InsertSpec, Request};
+pub use requests::{Auth, Resolved};

@@ -1,13 +1,11 @@
 //! What a line means, and what becomes of it.
 ghost use Rattle.std.specs.Prelude.{◌≡◌, IfOk, OnErr};
-ghost use Rattle.open_index.specs.Refusal.{Gives};
+ghost use Rattle.request_types.specs.Refusal.{Gives};
 ghost use Rattle.open_index.specs.Open.{IsNumbered};
 ghost use Rattle.row_types.specs.Valid.{IsValid};
 ghost use Rattle.open_index.specs.Fits.{HandlesFit, ResolvedFits};
 ghost use Rattle.open_index.specs.Line.{command_of, is_secret, tells, is_locked, command_means, tokens_mean, line_means, reads};
 
-use crate::codes::Code;
-use crate::faults::Fault;
 use crate::handles::Handles;
 use crate::meanings::{Command, Meaning};
 use crate::opening::open_of;
@@ -15,7 +13,7 @@ use crate::operations::request_of;
 use crate::requests::{Auth, Resolved};
 use crate::tokens::{is_word, u32_at};
 use bytes::Bytes;
-use hs_outside::Port;
+use request_types::{Code, Fault, Port};
 use hs_token::{Token, TokenFault, decode_line};
 use row_types::{ByteText, Schema};
 use std::alloc::{AllocError, Global};

@@ -1,6 +1,6 @@
 //! What a line means, before it takes effect.
 use crate::handles::Handle;
-use crate::requests::Request;
+use request_types::Request;
 
 /// What a line is, by its first token.
 #[derive(Clone, Copy, Debug, PartialEq, Eq)]

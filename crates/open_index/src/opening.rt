@@ -1,11 +1,10 @@
 //! Opening an index: its names, and the columns that lists name.
 ghost use Rattle.std.specs.Prelude.{◌≡◌, ◌<◌, ◌^◌, length, map, IfOk, IfSome, option_map, ◌==◌};
 ghost use Rattle.std.specs.List.{All};
-ghost use Rattle.open_index.specs.Refusal.{Gives};
+ghost use Rattle.request_types.specs.Refusal.{Gives};
 ghost use Rattle.open_index.specs.Open.{IsNumbered, IsTableNumbered, table_named, index_named, column_named, names_of, is_listed, column_onto, columns_onto, columns_of, filter_columns_of, lists_of, part_of, handle_of, has_room, open_of};
 
-use crate::codes::Code;
-use crate::faults::Fault;
+use request_types::{Code, Fault};
 use crate::handles::{Handle, Handles, MOST_OPEN, OpenColumn};
 use crate::tokens::{is_word, u32_at};
 use hs_token::Token;

@@ -1,20 +1,16 @@
 //! Finds and inserts on an open id.
 ghost use Rattle.std.specs.Prelude.{◌≡◌, IfOk, length};
-ghost use Rattle.open_index.specs.Refusal.{Gives};
+ghost use Rattle.request_types.specs.Refusal.{Gives};
 ghost use Rattle.open_index.specs.Find.{numbers, asked, find_op, find_of};
 ghost use Rattle.open_index.specs.Insert.{rest_of, insert_of};
 ghost use Rattle.open_index.specs.Line.{operation_of, request_of};
 
 use crate::changes::{is_reading, mod_of};
-use crate::codes::Code;
-use crate::faults::Fault;
 use crate::handles::{Handle, Handles, OpenColumn};
 use crate::parts::{count_at, filters_at, key_at, limit_at, within_at};
-use crate::requests::{InsertSpec, Request};
 use crate::tokens::is_word;
 use crate::values::values_of;
-use find_filter::{FindOp, FindSpec, ModSpec};
-use hs_outside::Port;
+use request_types::{Code, Fault, FindOp, FindSpec, InsertSpec, ModSpec, Port, Request};
 use hs_token::Token;
 use row_types::List;
 use std::alloc::{AllocError, Global};

@@ -1,14 +1,12 @@
 //! The parts of a find, from left to right: the key, LIM, IN and the filters.
 ghost use Rattle.std.specs.Prelude.{◌≡◌, ◌≤◌, length, IfOk, option_map};
-ghost use Rattle.open_index.specs.Refusal.{Gives};
+ghost use Rattle.request_types.specs.Refusal.{Gives};
 ghost use Rattle.open_index.specs.Find.{count_at, key_at, limit_at, part_at, list_len_at, list_at, within_at, is_filter, filter_op, filter_of, filter_at, next_filter, filters_at};
 
-use crate::codes::Code;
-use crate::faults::Fault;
 use crate::handles::OpenColumn;
 use crate::tokens::{front_at, is_word, number_at, u32_at};
 use crate::values::{value_of, values_in, values_of};
-use find_filter::{FilterOp, FilterSpec, FindOp, InSpec};
+use request_types::{Code, Fault, FilterOp, FilterSpec, FindOp, InSpec};
 use hs_token::Token;
 use row_types::{List, RowKey};
 use std::alloc::Global;

@@ -4,8 +4,7 @@ ghost use Rattle.open_index.specs.Open.{IsNumbered, IsTableNumbered};
 
 use super::*;
 use bytes::Bytes;
-use find_filter::{FindSpec, ModSpec};
-use hs_outside::Port;
+use request_types::{FindSpec, ModSpec, Port};
 use row_types::{ByteText, Column, IndexDef, IndexKind, Kind, List, Schema, TableDef, Value};
 use std::alloc::{AllocError, Global};
 use std::fmt::Write;

@@ -1,10 +1,9 @@
 //! Tokens as words and numbers, and the next tokens of a line.
 ghost use Rattle.std.specs.Prelude.{◌≡◌, IfOk, length};
-ghost use Rattle.open_index.specs.Refusal.{Gives};
+ghost use Rattle.request_types.specs.Refusal.{Gives};
 ghost use Rattle.open_index.specs.Tokens.{is_word, u32_at, i64_at, number_at, front_at};
 
-use crate::codes::Code;
-use crate::faults::Fault;
+use request_types::{Code, Fault};
 use hs_token::{Token, parse_i64, parse_u32};
 
 /// Whether a token is this text.

@@ -1,10 +1,9 @@
 //! The values that tokens write for columns.
 ghost use Rattle.std.specs.Prelude.{◌≡◌, ◌≤◌, length, IfOk};
-ghost use Rattle.open_index.specs.Refusal.{Gives};
+ghost use Rattle.request_types.specs.Refusal.{Gives};
 ghost use Rattle.open_index.specs.Values.{value_of, values_of, values_in, delta_of, deltas_of};
 
-use crate::codes::Code;
-use crate::faults::Fault;
+use request_types::{Code, Fault};
 use crate::handles::OpenColumn;
 use crate::tokens::i64_at;
 use hs_token::{Token, parse_i64};

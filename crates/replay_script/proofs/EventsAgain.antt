@@ -6,8 +6,8 @@ use Rattle.hs_line.specs.declared.limits.TheConstants.{MAX_LINE_LEN}
 use Rattle.hs_token.specs.Spelling.{line_spelled}
 use Rattle.hs_token.proofs.LineLemmas.{line_again}
 use Rattle.hs_token.proofs.NumberLemmas.{printed_u32}
-use Rattle.hs_outside.specs.declared.ports.Port.{Port}
-use Rattle.hs_outside.specs.declared.ports.Port.TheVariants.{Reading, Writing, Sql}
+use Rattle.request_types.specs.declared.ports.Port.{Port}
+use Rattle.request_types.specs.declared.ports.Port.TheVariants.{Reading, Writing, Sql}
 use Rattle.replay_script.specs.declared.events.Event.{Event}
 use Rattle.replay_script.specs.declared.events.Event.TheVariants.{Table, LimitBytes, Secret, Open, Bytes, End, Room, Fault, Turn, Show}
 use Rattle.replay_script.specs.Words.{port_of, numbers_of}

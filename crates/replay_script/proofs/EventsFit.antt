@@ -12,7 +12,7 @@ use Rattle.hs_token.specs.declared.tokens.Token.{Token}
 use Rattle.hs_token.specs.declared.tokens.Token.TheVariants.{Null, Text}
 use Rattle.hs_token.specs.Number.{is_number, u32_of}
 use Rattle.hs_token.specs.Reading.{line_at}
-use Rattle.hs_outside.specs.declared.ports.Port.TheVariants.{Reading, Writing}
+use Rattle.request_types.specs.declared.ports.Port.TheVariants.{Reading, Writing}
 use Rattle.replay_script.specs.declared.events.Event.{Event}
 use Rattle.replay_script.specs.declared.events.Event.TheVariants.{Table, LimitBytes, Secret, Open, Bytes, End, Room, Fault, Turn}
 use Rattle.replay_script.specs.Words.{both, port_of, numbers_of, are_conns, conns_of}

@@ -4,8 +4,8 @@ use Rattle.std.specs.Str.{bytes_eq}
 use Rattle.hs_token.specs.declared.tokens.Token.{Token}
 use Rattle.hs_token.specs.declared.tokens.Token.TheVariants as tokens
 use Rattle.hs_token.specs.Number.{u32_of}
-use Rattle.hs_outside.specs.declared.ports.Port.{Port}
-use Rattle.hs_outside.specs.declared.ports.Port.TheVariants.{Reading, Writing}
+use Rattle.request_types.specs.declared.ports.Port.{Port}
+use Rattle.request_types.specs.declared.ports.Port.TheVariants.{Reading, Writing}
 use Rattle.row_types.specs.Valid.{are_distinct}
 
 -- What is made of two things, where both are there.

@@ -1,5 +1,5 @@
 //! The events that a script may have.
-use hs_outside::Port;
+use request_types::Port;
 use hs_token::Token;
 use row_types::{ByteText, List};
 

@@ -1,7 +1,7 @@
 //! Lines of scripts, and what they say.
 ghost use Rattle.std.specs.Prelude.{◌≡◌, ◌≤◌, ℕ, List, ◌++◌, ◌∷◌, [], None, Some, codes, length, IfSome};
 ghost use Rattle.hs_token.specs.declared.tokens.Token.{Token};
-ghost use Rattle.hs_outside.specs.declared.ports.Port.TheVariants.{Reading, Writing};
+ghost use Rattle.request_types.specs.declared.ports.Port.TheVariants.{Reading, Writing};
 ghost use Rattle.hs_token.specs.Spelling.{line_spelled};
 ghost use Rattle.replay_script.specs.declared.events.Event.{Event};
 ghost use Rattle.replay_script.specs.declared.events.Event.TheVariants.{Table, LimitBytes, Secret, Open, Bytes, End, Room, Fault, Turn, Show};

@@ -2,7 +2,7 @@
 ghost use Rattle.std.specs.Prelude.{◌≡◌};
 ghost use Rattle.replay_script.specs.Words.{port_of};
 
-use hs_outside::Port;
+use request_types::Port;
 
 /// The port that a word names. The port of SQL has no word yet.
 pub fn port_of(word: &[u8]) -> Option<Port>

@@ -1,7 +1,7 @@
 //! Tables of lines, and what they say. Their values are the script's rules written out, and none comes from a run.
 use super::*;
 use bytes::Bytes;
-use hs_outside::Port;
+use request_types::Port;
 use hs_token::Token;
 use std::alloc::{AllocError, Global};
 use std::test::Fail;

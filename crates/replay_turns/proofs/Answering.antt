@@ -3,15 +3,15 @@ use Rattle.std.proofs.Common.{◌≡◌, ℕ, Bool, true, false, eqb, List, [], 
 use Rattle.std.specs.Prelude.{if◌then◌else◌, option_to_list}
 use Rattle.std.specs.List.{AllByRecursion, list_all}
 use Rattle.std.proofs.lemmas.Bool.{cases_Bool}
-use Rattle.hs_outside.specs.declared.connections.ConnId.{ConnId}
+use Rattle.request_types.specs.declared.connections.ConnId.{ConnId}
 use Rattle.row_types.specs.declared.tables.Schema.{Schema}
 use Rattle.row_types.specs.Valid.{IsValid}
-use Rattle.line_pipeline.specs.declared.batches.Batch.{Batch}
-use Rattle.line_pipeline.specs.declared.batches.Item.{Item}
-use Rattle.line_pipeline.specs.declared.batches.ItemKind.{ItemKind}
-use Rattle.line_pipeline.specs.declared.batches.Part.{Part}
-use Rattle.line_pipeline.specs.declared.batches.Replies.{Replies}
-use Rattle.line_pipeline.specs.declared.batches.Outcome.TheVariants as outcomes
+use Rattle.request_types.specs.declared.batches.Batch.{Batch}
+use Rattle.request_types.specs.declared.batches.Item.{Item}
+use Rattle.request_types.specs.declared.batches.ItemKind.{ItemKind}
+use Rattle.request_types.specs.declared.batches.Part.{Part}
+use Rattle.request_types.specs.declared.batches.Replies.{Replies}
+use Rattle.line_pipeline.specs.declared.outcomes.Outcome.TheVariants as outcomes
 use Rattle.line_pipeline.specs.declared.conns.Conn.{Conn}
 use Rattle.line_pipeline.specs.declared.conns.Conn.TheVariants as conns
 use Rattle.line_pipeline.specs.declared.reasons.Reason.TheVariants as reasons

@@ -4,17 +4,17 @@ use Rattle.std.specs.Prelude.{codes, if◌then◌else◌}
 use Rattle.std.specs.List.{AllByRecursion}
 use Rattle.hs_token.specs.declared.tokens.Token.{Token}
 use Rattle.hs_token.specs.Reading.{line_at}
-use Rattle.hs_outside.specs.declared.ports.Port.{Port}
-use Rattle.hs_outside.specs.declared.connections.ConnId.{ConnId}
+use Rattle.request_types.specs.declared.ports.Port.{Port}
+use Rattle.request_types.specs.declared.connections.ConnId.{ConnId}
 use Rattle.row_types.specs.declared.tables.Schema.{Schema}
 use Rattle.row_types.specs.Valid.{IsValid}
-use Rattle.open_index.specs.declared.codes.Code.{Code}
-use Rattle.open_index.specs.declared.codes.Code.TheVariants as refused
+use Rattle.request_types.specs.declared.codes.Code.{Code}
+use Rattle.request_types.specs.declared.codes.Code.TheVariants as refused
 use Rattle.open_index.specs.declared.handles.Handle.{Handle}
 use Rattle.open_index.specs.declared.requests.Auth.{Auth}
 use Rattle.open_index.specs.declared.requests.Resolved.{Resolved}
-use Rattle.open_index.specs.declared.requests.Request.{Request}
-use Rattle.open_index.specs.Refusal.{◌>>=◌, or_refuse}
+use Rattle.request_types.specs.declared.requests.Request.{Request}
+use Rattle.request_types.specs.Refusal.{◌>>=◌, or_refuse}
 use Rattle.open_index.specs.Tokens.{is_word, u32_at}
 use Rattle.open_index.specs.Line.{command_of, request_of, tells, is_secret, is_locked, command_means, tokens_mean, spelled, line_means, becomes, reads}
 use Rattle.open_index.specs.Open.{opened, open_of}
@@ -22,8 +22,8 @@ use Rattle.open_index.specs.Fits.{HandlesFit}
 use Rattle.open_index.proofs.OpensFit.{open_fits}
 use Rattle.open_index.proofs.RequestsFit.{request_fits}
 use Rattle.open_index.proofs.ReadsFit.{opened_fit}
-use Rattle.line_pipeline.specs.declared.batches.Item.{Item}
-use Rattle.line_pipeline.specs.declared.batches.ItemKind.{ItemKind}
+use Rattle.request_types.specs.declared.batches.Item.{Item}
+use Rattle.request_types.specs.declared.batches.ItemKind.{ItemKind}
 use Rattle.line_pipeline.specs.declared.conns.Conn.{Conn}
 use Rattle.line_pipeline.specs.declared.conns.Conn.TheVariants as conns
 use Rattle.line_pipeline.specs.Live.{kind_of, kinds_of, left_by, taken_lines, item_of}

@@ -2,11 +2,11 @@
 use Rattle.std.proofs.Common.{◌≡◌, ℕ, zero, suc, Bool, true, false, ◌&&◌, ◌||◌, List, [], ◌∷◌, ◌++◌, length, map, Option, Some, None, is_some, option_map, refl, sym, ap, subst, ◌∙◌, ⊎_elim}
 use Rattle.std.specs.Prelude.{if◌then◌else◌, nat_lt}
 use Rattle.std.proofs.lemmas.Bool.{cases_Bool, or_parts}
-use Rattle.hs_outside.specs.declared.connections.ConnId.{ConnId}
+use Rattle.request_types.specs.declared.connections.ConnId.{ConnId}
 use Rattle.row_types.specs.declared.tables.Schema.{Schema}
-use Rattle.line_pipeline.specs.declared.batches.Item.{Item}
-use Rattle.line_pipeline.specs.declared.batches.ItemKind.{ItemKind}
-use Rattle.line_pipeline.specs.declared.batches.Part.{Part}
+use Rattle.request_types.specs.declared.batches.Item.{Item}
+use Rattle.request_types.specs.declared.batches.ItemKind.{ItemKind}
+use Rattle.request_types.specs.declared.batches.Part.{Part}
 use Rattle.line_pipeline.specs.declared.conns.Conn.{Conn}
 use Rattle.line_pipeline.specs.declared.conns.Conn.TheVariants as conns
 use Rattle.line_pipeline.specs.Live.{Live, taken_lines, kinds_of, left_by, behind, item_of}

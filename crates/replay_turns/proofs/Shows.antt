@@ -5,7 +5,7 @@
 --     indexes_there      the indexes of the table that is read at its number
 use Rattle.std.proofs.Common.{◌≡◌, ℕ, ◌<◌, List, [], ◌∷◌, length, map, get_or, Some, refl, sym, ap, ◌∙◌}
 use Rattle.std.proofs.lemmas.List.{get_or-map, get_or_default}
-use Rattle.row_store.specs.Entries.{Entry}
+use Rattle.table_rows.specs.Entries.{Entry}
 use Rattle.table_rows.specs.declared.bound.Bound.TheVariants.{From}
 use Rattle.row_types.specs.declared.tables.TableDef.{TableDef}
 use Rattle.table_rows.specs.Rows.{State, no_table, no_rows, indexes_of, entries_of}

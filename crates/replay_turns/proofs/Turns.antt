@@ -3,10 +3,10 @@ use Rattle.std.proofs.Common.{◌≡◌, ℕ, Bool, true, false, eqb, not, ◌&&
 use Rattle.std.specs.Prelude.{if◌then◌else◌, option_to_list, nat_eq}
 use Rattle.std.specs.List.{AllByRecursion, list_any}
 use Rattle.std.proofs.lemmas.Bool.{cases_Bool, or_parts, and_parts, both_ways, eqb-true, eq-eqb}
-use Rattle.hs_outside.specs.declared.connections.ConnId.{ConnId}
+use Rattle.request_types.specs.declared.connections.ConnId.{ConnId}
 use Rattle.row_types.specs.declared.tables.Schema.{Schema}
 use Rattle.row_types.specs.Valid.{are_distinct}
-use Rattle.line_pipeline.specs.declared.batches.ItemKind.{ItemKind}
+use Rattle.request_types.specs.declared.batches.ItemKind.{ItemKind}
 use Rattle.line_pipeline.specs.declared.conns.Conn.{Conn}
 use Rattle.line_pipeline.specs.Table.{Table, same_id, is_listed, are_once, conn_at, is_held, changed}
 use Rattle.line_pipeline.proofs.Ids.{same_id-refl, same_id-is, same_id-other, once-head, once-tail}

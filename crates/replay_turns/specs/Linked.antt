@@ -1,6 +1,6 @@
 -- Connections, each with the link that it stands on, in the order in which they were opened.
 use Rattle.std.specs.Prelude.{ℕ, ◌==◌, Bool, true, false, List, [], ◌∷◌, ◌++◌, Option, Some, None, is_some, if◌then◌else◌}
-use Rattle.hs_outside.specs.declared.ports.Port.{Port}
+use Rattle.request_types.specs.declared.ports.Port.{Port}
 use Rattle.line_pipeline.specs.declared.conns.Conn.{Conn}
 use Rattle.line_pipeline.specs.declared.conns.Conn.TheVariants as conns
 use Rattle.line_pipeline.specs.declared.secrets.Secrets.{Secrets}

@@ -1,7 +1,7 @@
 -- What connections are answered in a turn.
 use Rattle.std.specs.Prelude.{ℕ, List, [], ◌∷◌, Option, Some, None}
 use Rattle.row_types.specs.declared.tables.Schema.{Schema}
-use Rattle.line_pipeline.specs.declared.batches.ItemKind.{ItemKind}
+use Rattle.request_types.specs.declared.batches.ItemKind.{ItemKind}
 use Rattle.line_pipeline.specs.declared.conns.Conn.{Conn}
 use Rattle.line_pipeline.specs.declared.conns.Conn.TheVariants as conns
 use Rattle.line_pipeline.specs.Live.{kinds_of, taken_lines}

@@ -16,7 +16,6 @@ reason_word reasons.LinkFault = codes "link"
 reason_word reasons.TooLong = codes "long"
 reason_word reasons.BatchDisk = codes "disk"
 reason_word reasons.BatchMemory = codes "memory"
-reason_word reasons.LogFull = codes "log"
 
 -- A line of a word, a number and a text, each as a token.
 abbrev pub line_of : List ℕ → ℕ → List ℕ → List ℕ

@@ -2,7 +2,8 @@
 ghost use Rattle.std.specs.Prelude.{◌≡◌, ◌++◌, option_to_list, OnOk, IfOk};
 ghost use Rattle.replay_turns.specs.Entries.{place_from, id_at, ids_at};
 
-use hs_outside::{ConnId, MemLink, Port};
+use hs_outside::MemLink;
+use request_types::{ConnId, Port};
 use std::alloc::{AllocError, Global};
 
 /// What is kept of a connection beside the table.

@@ -35,6 +35,5 @@ pub fn reason_word(reason: Reason) -> &'static [u8]
         Reason::TooLong => b"long",
         Reason::BatchDisk => b"disk",
         Reason::BatchMemory => b"memory",
-        Reason::LogFull => b"log",
     }
 }

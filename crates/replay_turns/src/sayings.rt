@@ -5,7 +5,7 @@ ghost use Rattle.replay_turns.specs.Sayings.{EntrySaid, said};
 
 use crate::connections::Connections;
 use crate::entries::{Entry, place_of};
-use hs_outside::Port;
+use request_types::Port;
 use std::alloc::AllocError;
 
 /// What a peer or a link will do.

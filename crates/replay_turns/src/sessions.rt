@@ -10,7 +10,7 @@ ghost use Rattle.replay_turns.specs.Shown.{table_at, rows_shown};
 use crate::connections::Connections;
 use crate::sayings::Saying;
 use crate::showing::{push_rows, table_at};
-use hs_outside::Port;
+use request_types::Port;
 use line_pipeline::Secrets;
 use row_types::{Schema, copy_schema};
 use std::alloc::{AllocError, Global};

@@ -3,7 +3,7 @@ ghost use Rattle.std.specs.Prelude.{◌≡◌, ◌<◌, ◌≤◌, ◌++◌, len
 ghost use Rattle.std.specs.List.{list_any};
 ghost use Rattle.row_types.specs.declared.indexes.IndexDef.{IndexDef};
 ghost use Rattle.row_types.specs.Valid.{IsValid, is_primary};
-ghost use Rattle.row_store.specs.Entries.{Entry};
+ghost use Rattle.table_rows.specs.Entries.{Entry};
 ghost use Rattle.hs_token.specs.Spelling.{behind_tabs};
 ghost use Rattle.table_rows.specs.Rows.{indexes_of};
 ghost use Rattle.table_rows.specs.Indexes.{primary_of, parts_at};

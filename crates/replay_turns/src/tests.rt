@@ -2,7 +2,7 @@
 mod steps;
 
 use super::*;
-use hs_outside::Port;
+use request_types::Port;
 use std::alloc::{AllocError, Global};
 use std::test::Fail;
 use steps::{

@@ -11,7 +11,7 @@ use Rattle.row_types.specs.declared.columns.Kind.TheVariants.{Int, Bytes}
 use Rattle.row_types.specs.declared.columns.Fit.TheVariants.{Fine, WrongKind, Long}
 use Rattle.row_types.specs.declared.columns.Column.{Column}
 use Rattle.row_types.specs.Fit.{kind_fit, fit_of}
-use Rattle.open_index.specs.declared.codes.Code.{Code}
+use Rattle.request_types.specs.declared.codes.Code.{Code}
 use Rattle.table_rows.specs.declared.verdict.Verdict.{Verdict}
 use Rattle.table_rows.specs.declared.verdict.Verdict.TheVariants as verdicts
 use Rattle.table_rows.specs.Checks.{IsRow}

@@ -3,9 +3,9 @@
 use Rattle.std.proofs.Common.{◌≡◌, ◌<◌, length, get_or, subst, ap, ◌∙◌}
 use Rattle.row_types.specs.declared.tables.TableDef.{TableDef}
 use Rattle.row_types.specs.declared.tables.Schema.{Schema}
-use Rattle.find_filter.proofs.FitFacts.{is_within, holds_there}
-use Rattle.open_index.specs.declared.requests.InsertSpec.{InsertSpec}
-use Rattle.open_index.specs.Fits.{InsertFitsTable, InsertFits}
+use Rattle.request_types.proofs.FitFacts.{is_within, holds_there}
+use Rattle.request_types.specs.declared.inserts.InsertSpec.{InsertSpec}
+use Rattle.request_types.specs.Fits.{InsertFitsTable, InsertFits}
 use Rattle.table_rows.specs.Rows.{State, no_table, def_of, columns_of}
 use Rattle.table_rows.specs.Valid.{AreValidRows, IsValidState}
 use Rattle.table_rows.proofs.States.{zip_long, def_valid}

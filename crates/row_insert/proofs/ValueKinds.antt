@@ -12,8 +12,8 @@ use Rattle.row_types.specs.declared.columns.Fit.TheVariants.{Fine, WrongKind, Lo
 use Rattle.row_types.specs.declared.columns.Column.{Column}
 use Rattle.row_types.specs.Fit.{kind_fit}
 use Rattle.row_types.specs.Valid.{IsColumn}
-use Rattle.find_filter.specs.Fits.{IsOfKind, AreAt}
-use Rattle.open_index.specs.declared.requests.InsertSpec.{InsertSpec}
+use Rattle.request_types.specs.Fits.{IsOfKind, AreAt}
+use Rattle.request_types.specs.declared.inserts.InsertSpec.{InsertSpec}
 use Rattle.row_insert.specs.Refusal.{IsOfKinds}
 use Rattle.row_insert.specs.Insert.{value_for, row_from, new_row}
 

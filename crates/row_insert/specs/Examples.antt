@@ -7,7 +7,7 @@ use Rattle.row_types.specs.declared.columns.Kind.TheVariants.{Int, Bytes}
 use Rattle.row_types.specs.declared.indexes.IndexDef.{IndexDef}
 use Rattle.row_types.specs.declared.indexes.IndexKind.TheVariants.{Primary, Unique, Plain}
 use Rattle.row_types.specs.declared.tables.Schema.{Schema}
-use Rattle.open_index.specs.declared.requests.InsertSpec.{InsertSpec}
+use Rattle.request_types.specs.declared.inserts.InsertSpec.{InsertSpec}
 use Rattle.table_rows.specs.Rows.{State}
 
 -- A number `id`, a text `name` of 4 bytes at most that may be NULL, and a number

@@ -2,9 +2,9 @@
 use Rattle.std.specs.Prelude.{◌≡◌, ℕ, suc, ◌==◌, List, [], ◌∷◌, ◌++◌, length, Option, Some, None, if◌then◌else◌}
 use Rattle.row_types.specs.declared.values.Value.{Value}
 use Rattle.row_types.specs.declared.columns.Column.{Column}
-use Rattle.open_index.specs.declared.codes.Code.{Code}
-use Rattle.open_index.specs.declared.requests.InsertSpec.{InsertSpec}
-use Rattle.open_index.specs.Code.{number}
+use Rattle.request_types.specs.declared.codes.Code.{Code}
+use Rattle.request_types.specs.declared.inserts.InsertSpec.{InsertSpec}
+use Rattle.request_types.specs.Code.{number}
 use Rattle.table_rows.specs.declared.undo.Undo.{Undo}
 use Rattle.table_rows.specs.declared.undo.Undo.TheVariants.{Put}
 use Rattle.table_rows.specs.Rows.{State, rows_of}

@@ -6,8 +6,8 @@ use Rattle.row_types.specs.declared.columns.Column.{Column}
 use Rattle.row_types.specs.declared.columns.Fit.{Fit}
 use Rattle.row_types.specs.declared.columns.Fit.TheVariants as fits
 use Rattle.row_types.specs.Fit.{kind_fit, fit_of}
-use Rattle.open_index.specs.declared.codes.Code.{Code}
-use Rattle.open_index.specs.declared.codes.Code.TheVariants as refused
+use Rattle.request_types.specs.declared.codes.Code.{Code}
+use Rattle.request_types.specs.declared.codes.Code.TheVariants as refused
 use Rattle.table_rows.specs.declared.slot_ref.SlotRef.{SlotRef}
 use Rattle.table_rows.specs.declared.verdict.Verdict.{Verdict}
 use Rattle.table_rows.specs.declared.verdict.Verdict.TheVariants as verdicts

@@ -1,6 +1,6 @@
 //! Inserting a row.
 ghost use Rattle.std.specs.Prelude.{◌≡◌, ◌≢◌, IfOk, Ok, None};
-ghost use Rattle.open_index.specs.Fits.{InsertFits};
+ghost use Rattle.request_types.specs.Fits.{InsertFits};
 ghost use Rattle.table_rows.specs.Rows.{columns_of};
 ghost use Rattle.row_insert.specs.Refusal.{refusal_of};
 ghost use Rattle.row_insert.specs.Insert.{new_row, answer_to, IsPut, IsUnchanged};
@@ -8,7 +8,7 @@ ghost use Rattle.row_insert.specs.declared.inserts.Inserted.TheVariants.{Done};
 
 use crate::new_rows::new_row;
 use crate::refusals::refusal_of;
-use open_index::InsertSpec;
+use request_types::InsertSpec;
 use row_types::Schema;
 use std::alloc::{AllocError, Global};
 use table_rows::{Tables, UndoList};

@@ -2,7 +2,7 @@
 ghost use Rattle.std.specs.Prelude.{◌≡◌, [], ◌∷◌, codes, Some, None, pos};
 ghost use Rattle.row_types.specs.declared.values.Value.TheVariants as values;
 ghost use Rattle.row_types.specs.Valid.{IsValid};
-ghost use Rattle.open_index.specs.declared.codes.Code.TheVariants as refused;
+ghost use Rattle.request_types.specs.declared.codes.Code.TheVariants as refused;
 ghost use Rattle.row_insert.specs.Refusal.{refusal_of};
 ghost use Rattle.row_insert.specs.Insert.{new_row};
 ghost use Rattle.row_insert.specs.Examples.{people, people_columns, person, one_person, insert_of};

@@ -2,7 +2,7 @@
 ghost use Rattle.std.specs.Prelude.{◌≡◌, ◌<◌, ◌^◌, length, IfOk};
 ghost use Rattle.row_insert.specs.Insert.{value_for, new_row};
 
-use open_index::InsertSpec;
+use request_types::InsertSpec;
 use row_types::{Column, List, Row, Value, copy_value};
 use std::alloc::{AllocError, Global};
 

@@ -5,7 +5,7 @@ ghost use Rattle.table_rows.specs.Slots.{is_live_in};
 ghost use Rattle.table_rows.specs.Checks.{IsAllowed};
 ghost use Rattle.row_insert.specs.Refusal.{IsOfKinds, is_long, is_too_long, code_of, refusal_of};
 
-use open_index::Code;
+use request_types::Code;
 use row_types::{Column, Fit, Row, Value, fits};
 use table_rows::{SlotRef, Tables, Verdict};
 

@@ -8,9 +8,9 @@ ghost use Rattle.row_insert.specs.Examples.{people, people_columns, people_index
 
 use super::*;
 use bytes::Bytes;
-use hs_outside::Port;
-use open_index::{Auth, Handles, Request, Resolved, handles_new, resolve, schemas_that_fit};
-use row_store::Edge;
+use open_index::{Auth, Handles, Resolved, handles_new, resolve, schemas_that_fit};
+use request_types::{Port, Request};
+use table_rows::Edge;
 use row_types::{ByteText, Column, IndexDef, IndexKind, Kind, List, Row, Schema, TableDef, Value};
 use std::alloc::{AllocError, Global};
 use std::fmt::Write;

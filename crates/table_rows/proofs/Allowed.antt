@@ -3,7 +3,7 @@
 --     new_after, new_when_allowed      a row that may stand in a table is new to it
 use Rattle.std.proofs.Common.{◌≡◌, ℕ, ◌<◌, ◌≤◌, true, List, length, None, Some, subst, sym, arith, length-set}
 use Rattle.row_types.specs.declared.values.Value.{Value}
-use Rattle.row_store.specs.Walks.{IsNew}
+use Rattle.table_rows.specs.StoreWalks.{IsNew}
 use Rattle.table_rows.specs.declared.slot_ref.SlotRef.{SlotRef}
 use Rattle.table_rows.specs.Rows.{State, def_of, indexes_of, rows_of, entries_of}
 use Rattle.table_rows.specs.Indexes.{primary_of}

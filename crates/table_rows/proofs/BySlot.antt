@@ -15,7 +15,7 @@ use Rattle.index_tree.specs.Ordered.{IsAscending, with_item, is_below}
 use Rattle.index_tree.proofs.Elements.{all_pass, all_weaker, all_members, contains_first, contains_later, contains_cases, no_member}
 use Rattle.index_tree.proofs.Ascending.{greater_back}
 use Rattle.row_types.specs.declared.values.Value.{Value}
-use Rattle.row_store.specs.Entries.{Entry}
+use Rattle.table_rows.specs.Entries.{Entry}
 use Rattle.table_rows.specs.Slots.{is_in, is_live, row_in, row_of, without}
 use Rattle.table_rows.specs.Valid.{EachPair}
 use Rattle.table_rows.proofs.Passing.{others_all, any_false, none_any, any_member, filter_put, put_first, put_later, any_put}

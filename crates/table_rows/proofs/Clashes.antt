@@ -11,8 +11,8 @@ use Rattle.std.specs.Ordering.{is_eq}
 use Rattle.row_types.specs.Order.{key_cmp}
 use Rattle.row_types.specs.declared.values.Value.{Value}
 use Rattle.row_types.specs.declared.indexes.IndexDef.{IndexDef}
-use Rattle.row_store.specs.Entries.{Entry, cells, entry_cmp}
-use Rattle.row_store.specs.Walks.{is_like, first_like, slot_in}
+use Rattle.table_rows.specs.Entries.{Entry, cells, entry_cmp}
+use Rattle.table_rows.specs.StoreWalks.{is_like, first_like, slot_in}
 use Rattle.table_rows.specs.declared.slot_ref.SlotRef.{SlotRef}
 use Rattle.table_rows.specs.Slots.{is_in, without}
 use Rattle.table_rows.specs.Checks.{is_barred, meets, clashes, others}

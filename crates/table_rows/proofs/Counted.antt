@@ -8,7 +8,7 @@ use Rattle.index_tree.specs.Ordered.{with_item, is_below}
 use Rattle.index_tree.proofs.Ascending.{ascending_kept, parted_below}
 use Rattle.row_types.specs.declared.values.Value.{Value}
 use Rattle.row_types.specs.Size.{row_size}
-use Rattle.row_store.specs.Entries.{Entry, entry_cmp}
+use Rattle.table_rows.specs.Entries.{Entry, entry_cmp}
 use Rattle.table_rows.specs.declared.slot_ref.SlotRef.{SlotRef}
 use Rattle.table_rows.specs.Rows.{Rows, State, no_rows, def_of, indexes_of, rows_of, entries_of, room_of, with_entries}
 use Rattle.table_rows.specs.Indexes.{primary_of}

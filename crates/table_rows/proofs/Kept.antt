@@ -14,13 +14,13 @@ use Rattle.index_tree.proofs.Apart.{apart_from_ascending}
 use Rattle.index_tree.proofs.Ascending.{parted_below}
 use Rattle.index_tree.proofs.InOrder.{length-in_order, in_order_alike}
 use Rattle.row_types.specs.declared.values.Value.{Value}
-use Rattle.row_store.specs.Entries as store
-use Rattle.row_store.specs.Entries.{Slots, Entry, kept, vacancies, row_at, entry_cmp, walk}
-use Rattle.row_store.specs.Walks.{is_like, IsNew, IsKeyed}
-use Rattle.row_store.proofs.CellOrder.{entry_cmp_total, apart_at_more}
-use Rattle.row_store.proofs.KeptRows.{IsRowOf, count_kept, live_within, live_itself, vacant_within}
-use Rattle.row_store.proofs.WalkChanges.{walk_ascends, walk_members, walk_rows, keyed_put, keyed_take, walk_put, walk_put_vacant, walk_has}
-use Rattle.row_store.proofs.Neighbours.{own_slots}
+use Rattle.table_rows.specs.Entries as store
+use Rattle.table_rows.specs.Entries.{Slots, Entry, kept, vacancies, row_at, entry_cmp, walk}
+use Rattle.table_rows.specs.StoreWalks.{is_like, IsNew, IsKeyed}
+use Rattle.table_rows.proofs.CellOrder.{entry_cmp_total, apart_at_more}
+use Rattle.table_rows.proofs.KeptRows.{IsRowOf, count_kept, live_within, live_itself, vacant_within}
+use Rattle.table_rows.proofs.WalkChanges.{walk_ascends, walk_members, walk_rows, keyed_put, keyed_take, walk_put, walk_put_vacant, walk_has}
+use Rattle.table_rows.proofs.Neighbours.{own_slots}
 use Rattle.table_rows.specs.Slots.{IsVacant, is_in, is_live, row_of, without}
 use Rattle.table_rows.proofs.Passing.{none_any}
 use Rattle.table_rows.proofs.BySlot.{HaveOwnSlots, found, live_member, row_of_member, without_free, without_put}

@@ -9,8 +9,8 @@ use Rattle.index_tree.proofs.Ascending.{equal_is}
 use Rattle.row_types.specs.declared.values.Value.{Value}
 use Rattle.row_types.specs.Order.{value_cmp, key_cmp}
 use Rattle.row_types.proofs.Orders.{key_cmp_total, value_cmp-exact}
-use Rattle.row_store.specs.Entries.{Entry, cells, entry_cmp}
-use Rattle.row_store.specs.Walks.{is_like}
+use Rattle.table_rows.specs.Entries.{Entry, cells, entry_cmp}
+use Rattle.table_rows.specs.StoreWalks.{is_like}
 
 pub key_exact : (a b : List Value) → key_cmp a b ≡ Equal → a ≡ b
 key_exact [] [] e = refl

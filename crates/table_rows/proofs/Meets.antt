@@ -11,8 +11,8 @@ use Rattle.row_types.specs.declared.indexes.IndexKind.TheVariants.{Primary, Uniq
 use Rattle.row_types.specs.declared.indexes.IndexDef.{IndexDef}
 use Rattle.row_types.specs.Valid.{is_primary}
 use Rattle.index_tree.proofs.Elements.{all_weaker}
-use Rattle.row_store.specs.Entries.{Entry, cells}
-use Rattle.row_store.specs.Walks.{is_like, IsNew}
+use Rattle.table_rows.specs.Entries.{Entry, cells}
+use Rattle.table_rows.specs.StoreWalks.{is_like, IsNew}
 use Rattle.table_rows.specs.Indexes.{primary_of}
 use Rattle.table_rows.specs.Checks.{is_barred, meets, clashes, dup_index}
 use Rattle.table_rows.proofs.Passing.{any_false, none_any, position_none, none_position}

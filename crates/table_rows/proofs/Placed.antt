@@ -13,8 +13,8 @@ use Rattle.row_types.specs.declared.values.Value.{Value}
 use Rattle.row_types.specs.declared.indexes.IndexDef.{IndexDef}
 use Rattle.row_types.specs.declared.tables.TableDef.{TableDef}
 use Rattle.row_types.specs.Valid.{is_primary}
-use Rattle.row_store.specs.Entries.{Entry, entry_cmp}
-use Rattle.row_store.specs.Walks.{is_like, IsNew}
+use Rattle.table_rows.specs.Entries.{Entry, entry_cmp}
+use Rattle.table_rows.specs.StoreWalks.{is_like, IsNew}
 use Rattle.table_rows.specs.Rows.{Rows}
 use Rattle.table_rows.specs.Indexes.{primary_of}
 use Rattle.table_rows.specs.Slots.{is_in, is_live, row_of, without, with_row}

@@ -10,7 +10,7 @@ use Rattle.index_tree.proofs.Ascending.{ascending_agree}
 use Rattle.index_tree.proofs.InOrder.{in_order_ascending}
 use Rattle.row_types.specs.declared.values.Value.{Value}
 use Rattle.row_types.specs.Order.{value_cmp, key_cmp}
-use Rattle.row_store.specs.Entries.{Entry, cells, cell_at, entry_cmp}
+use Rattle.table_rows.specs.Entries.{Entry, cells, cell_at, entry_cmp}
 use Rattle.table_rows.specs.Rows.{State, indexes_of, entries_of}
 use Rattle.table_rows.specs.Indexes.{primary_of, parts_at, index_columns}
 use Rattle.table_rows.specs.Walks.{walk_of}

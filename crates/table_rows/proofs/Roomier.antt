@@ -10,7 +10,7 @@ use Rattle.row_types.specs.declared.indexes.IndexDef.{IndexDef}
 use Rattle.row_types.specs.declared.tables.TableDef.{TableDef}
 use Rattle.row_types.specs.declared.tables.Schema.{Schema}
 use Rattle.row_types.specs.Valid.{IsValid}
-use Rattle.row_store.specs.Entries.{Entry}
+use Rattle.table_rows.specs.Entries.{Entry}
 use Rattle.table_rows.specs.declared.undo.Undo.{Undo}
 use Rattle.table_rows.specs.declared.undo.Undo.TheVariants.{Put, Replaced, Deleted}
 use Rattle.table_rows.specs.Rows.{Rows, State, no_table, no_rows, indexes_of, rows_of, entries_of, room_of, with_entries}

@@ -3,12 +3,12 @@
 --     walk_seen      the order of an index
 use Rattle.std.proofs.Common.{◌≡◌, ℕ, ◌+◌, ◌≤◌, List, ◌++◌, length, set, replicate, Some, None, refl, ap, sym, ◌∙◌, arith, length-set}
 use Rattle.row_types.specs.declared.values.Value.{Value}
-use Rattle.row_store.specs.Entries as store
-use Rattle.row_store.specs.Entries.{Slots, Entry, kept, vacancies, row_at, walk}
-use Rattle.row_store.specs.Walks.{IsNew, IsKeyed}
-use Rattle.row_store.specs.Contents.{Contents, order_of, walk_of, with_slot}
-use Rattle.row_store.proofs.KeptRows.{count_kept}
-use Rattle.row_store.proofs.WalkChanges.{walk_with_vacant}
+use Rattle.table_rows.specs.Entries as store
+use Rattle.table_rows.specs.Entries.{Slots, Entry, kept, vacancies, row_at, walk}
+use Rattle.table_rows.specs.StoreWalks.{IsNew, IsKeyed}
+use Rattle.table_rows.specs.Contents.{Contents, order_of, walk_of, with_slot}
+use Rattle.table_rows.proofs.KeptRows.{count_kept}
+use Rattle.table_rows.proofs.WalkChanges.{walk_with_vacant}
 use Rattle.table_rows.specs.Rows.{Rows}
 use Rattle.table_rows.specs.Slots.{without}
 use Rattle.table_rows.specs.Table.{table_in, with_row_in, without_in, with_room, walk_by}

@@ -7,7 +7,7 @@ use Rattle.std.proofs.lemmas.List.{set-get_or}
 use Rattle.std.proofs.lemmas.List.Elements.{All-from_recursion}
 use Rattle.row_types.specs.declared.indexes.IndexDef.{IndexDef}
 use Rattle.row_types.specs.Valid.{is_primary, IsTable}
-use Rattle.row_store.specs.Entries.{Entry}
+use Rattle.table_rows.specs.Entries.{Entry}
 use Rattle.table_rows.specs.Rows.{Rows, State, no_table, no_rows, def_of, indexes_of, rows_of, entries_of, room_of, with_rows, with_entries}
 use Rattle.table_rows.specs.Sizes.{total, most_bytes}
 use Rattle.table_rows.specs.Valid.{AreValidRows, IsValidState}

@@ -5,7 +5,7 @@ use Rattle.std.proofs.Common.{◌≡◌, ℕ, ◌<◌, ◌≤◌, true, false, L
 use Rattle.std.proofs.lemmas.List.{drop-append-le, reverse-append, drop_all}
 use Rattle.index_tree.specs.Ordered.{with_item}
 use Rattle.row_types.specs.declared.values.Value.{Value}
-use Rattle.row_store.specs.Entries.{Entry, entry_cmp}
+use Rattle.table_rows.specs.Entries.{Entry, entry_cmp}
 use Rattle.table_rows.specs.declared.undo.Undo.{Undo}
 use Rattle.table_rows.specs.declared.undo.Undo.TheVariants.{Put, Replaced, Deleted}
 use Rattle.table_rows.specs.Rows.{State, def_of, indexes_of, rows_of, entries_of, room_of, with_entries}

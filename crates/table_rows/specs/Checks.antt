@@ -10,8 +10,8 @@ use Rattle.row_types.specs.declared.indexes.IndexKind.TheVariants.{Primary, Uniq
 use Rattle.row_types.specs.declared.indexes.IndexDef.{IndexDef}
 use Rattle.row_types.specs.declared.tables.TableDef.{TableDef}
 use Rattle.row_types.specs.Fit.{kind_fit}
-use Rattle.row_store.specs.Entries.{Entry, cells}
-use Rattle.row_store.specs.Walks.{is_like}
+use Rattle.table_rows.specs.Entries.{Entry, cells}
+use Rattle.table_rows.specs.StoreWalks.{is_like}
 use Rattle.table_rows.specs.declared.slot_ref.SlotRef.{SlotRef}
 use Rattle.table_rows.specs.declared.verdict.Verdict.{Verdict}
 use Rattle.table_rows.specs.declared.verdict.Verdict.TheVariants.{Fine, Dup, Null, Full}

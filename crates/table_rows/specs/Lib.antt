@@ -1,3 +1,11 @@
+pub mod Entries
+pub mod StoreWalks
+pub mod Walked
+pub mod Contents
+pub mod Digests
+pub mod Marks
+pub mod StoreInside
+pub mod Cuts
 pub mod Rows
 pub mod Indexes
 pub mod Slots

@@ -2,7 +2,7 @@
 use Rattle.std.specs.Prelude.{ℕ, ◌+◌, ◌-◌, Bool, ◌&&◌, nat_lt, List, Option, Some, None, sum_by}
 use Rattle.row_types.specs.declared.values.Value.{Value}
 use Rattle.row_types.specs.Size.{row_size}
-use Rattle.row_store.specs.Entries.{Entry}
+use Rattle.table_rows.specs.Entries.{Entry}
 use Rattle.table_rows.specs.declared.slot_ref.SlotRef.{SlotRef}
 use Rattle.table_rows.specs.Rows.{Rows, State, entries_of}
 use Rattle.table_rows.specs.Slots.{row_of}

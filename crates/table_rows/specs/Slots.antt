@@ -4,7 +4,7 @@ use Rattle.std.specs.List.{list_any}
 use Rattle.index_tree.specs.Ordered.{with_item}
 use Rattle.row_types.specs.declared.values.Value.{Value}
 use Rattle.row_types.specs.declared.indexes.IndexDef.{IndexDef}
-use Rattle.row_store.specs.Entries.{Entry, entry_cmp}
+use Rattle.table_rows.specs.Entries.{Entry, entry_cmp}
 use Rattle.table_rows.specs.Rows.{Rows, State, indexes_of, entries_of, with_entries}
 use Rattle.table_rows.specs.Indexes.{primary_of}
 

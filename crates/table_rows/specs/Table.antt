@@ -4,8 +4,8 @@ use Rattle.table_rows.specs.declared.slot_ref.SlotRef.{SlotRef}
 use Rattle.row_types.specs.declared.values.Value.{Value}
 use Rattle.row_types.specs.declared.indexes.IndexDef.{IndexDef}
 use Rattle.index_tree.specs.Ordered.{with_item, in_order}
-use Rattle.row_store.specs.Entries.{Entry, entry_cmp, walk}
-use Rattle.row_store.specs.Contents.{Contents}
+use Rattle.table_rows.specs.Entries.{Entry, entry_cmp, walk}
+use Rattle.table_rows.specs.Contents.{Contents}
 use Rattle.table_rows.specs.Rows.{Rows, State, no_rows, indexes_of, rows_of}
 use Rattle.table_rows.specs.Indexes.{primary_of, parts_of}
 use Rattle.table_rows.specs.Slots.{without}

@@ -4,10 +4,10 @@ use Rattle.std.specs.Option.{option_map}
 use Rattle.index_tree.specs.Ordered.{in_order}
 use Rattle.row_types.specs.declared.values.Value.{Value}
 use Rattle.row_types.specs.declared.indexes.IndexDef.{IndexDef}
-use Rattle.row_store.specs.declared.edge.Edge.{Edge}
-use Rattle.row_store.specs.Entries.{Entry, entry_cmp}
-use Rattle.row_store.specs.Walks.{first_from, last_to, behind, in_front}
-use Rattle.row_store.specs.Walked.{upward, downward}
+use Rattle.table_rows.specs.declared.edge.Edge.{Edge}
+use Rattle.table_rows.specs.Entries.{Entry, entry_cmp}
+use Rattle.table_rows.specs.StoreWalks.{first_from, last_to, behind, in_front}
+use Rattle.table_rows.specs.Walked.{upward, downward}
 use Rattle.table_rows.specs.declared.bound.Bound.{Bound}
 use Rattle.table_rows.specs.declared.bound.Bound.TheVariants.{From, Behind, To, Before}
 use Rattle.table_rows.specs.declared.slot_ref.SlotRef.{SlotRef}

@@ -1,7 +1,7 @@
 //! Whether a row may stand in a table.
 ghost use Rattle.std.specs.Prelude.{◌≡◌, ◌<◌, ◌≤◌, ◌^◌, length, Option, Some, None, true, false};
 ghost use Rattle.std.specs.List.{list_any};
-ghost use Rattle.row_store.specs.Entries.{cells, cell_at};
+ghost use Rattle.table_rows.specs.Entries.{cells, cell_at};
 ghost use Rattle.table_rows.specs.Checks.{is_null, null_column, is_barred, first_found};
 ghost use Rattle.table_rows.specs.Sizes.{is_full};
 

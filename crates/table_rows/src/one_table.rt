@@ -1,7 +1,7 @@
 //! The rows of one table, by their entries.
 ghost use Rattle.std.specs.Prelude.{◌≡◌, ◌+◌, ◌<◌, ◌≤◌, [], length, true, false, Option, Some, None, OnOk, OnErr, IfOk, IfSome, map};
 ghost use Rattle.row_types.specs.declared.tables.TableDef.{TableDef};
-ghost use Rattle.row_store.specs.Walks.{first_like, slot_in, IsNew};
+ghost use Rattle.table_rows.specs.StoreWalks.{first_like, slot_in, IsNew};
 ghost use Rattle.table_rows.specs.Rows.{Rows};
 ghost use Rattle.table_rows.specs.Indexes.{primary_of, parts_of};
 ghost use Rattle.table_rows.specs.Slots.{IsVacant, is_live, row_of, without};
@@ -10,7 +10,8 @@ ghost use Rattle.table_rows.specs.Walks.{begun, gone_on, walked};
 
 use crate::bound::Bound;
 use crate::walk::Walk;
-use row_store::{Edge, RowStore};
+use crate::edge::Edge;
+use crate::store::RowStore;
 use row_types::{IndexDef, IndexKind, Row, RowKey, TableDef, Value};
 use std::alloc::{AllocError, Global};
 use std::marker::Model;

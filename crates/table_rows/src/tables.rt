@@ -25,7 +25,7 @@ use crate::undo::Undo;
 use crate::undo_list::UndoList;
 use crate::verdict::Verdict;
 use crate::walk::Walk;
-use row_store::Edge;
+use crate::edge::Edge;
 use row_types::{Row, RowKey, Schema, TableDef, Value, copy_schema, row_size};
 use std::alloc::{AllocError, Global};
 use std::marker::Model;

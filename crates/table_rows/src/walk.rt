@@ -2,18 +2,19 @@
 ghost use Rattle.std.specs.Prelude.{◌≡◌, [], ◌∷◌, MatchOption};
 
 use crate::slot_ref::SlotRef;
+use crate::store_walk::StoreWalk;
 use row_types::Row;
 use std::marker::Model;
 
 /// The rows that are left, each with its slot, the next one first. A step costs no search.
 #[derive(Drop)]
 pub struct Walk<'a> {
-    rows: row_store::Walk<'a>,
+    rows: StoreWalk<'a>,
 }
 
 impl<'a> Model for Walk<'a> {
     ghost use Rattle.std.specs.Prelude.{List};
-    ghost use Rattle.row_store.specs.Entries.{Entry};
+    ghost use Rattle.table_rows.specs.Entries.{Entry};
 
     ghost Value = { List Entry };
 
@@ -21,7 +22,7 @@ impl<'a> Model for Walk<'a> {
 }
 
 impl<'a> Walk<'a> {
-    pub(crate) fn of(rows: row_store::Walk<'a>) -> Walk<'a>
+    pub(crate) fn of(rows: StoreWalk<'a>) -> Walk<'a>
         ensures { result ≡ rows.entry }
     {
         Walk { rows }

@@ -5,15 +5,15 @@ ghost use Rattle.row_types.specs.declared.columns.Kind.TheVariants.{Bytes};
 ghost use Rattle.row_types.specs.declared.columns.Fit.TheVariants as fits_as;
 ghost use Rattle.row_types.specs.declared.values.Value.TheVariants as values;
 ghost use Rattle.row_types.specs.Fit.{kind_fit};
-ghost use Rattle.find_filter.specs.declared.finds.FindOp.TheVariants.{Equal};
-ghost use Rattle.find_filter.specs.Fits.{AreNumbers};
+ghost use Rattle.request_types.specs.declared.finds.FindOp.TheVariants.{Equal};
+ghost use Rattle.request_types.specs.Fits.{AreNumbers};
 ghost use Rattle.table_rows.specs.Checks.{IsRow};
 ghost use Rattle.table_rows.specs.Widths.{empty_state};
 ghost use Rattle.table_rows.specs.Indexes.{parts_at};
 ghost use Rattle.find_scan.specs.Examples.{some_columns, some_indexes, some_schema, IsNumber, IsFind, IsPlay};
 
 use crate::{Rendered, render, select};
-use find_filter::{FilterOp, FilterSpec, FindOp, FindSpec, InSpec};
+use request_types::{FilterOp, FilterSpec, FindOp, FindSpec, InSpec};
 use row_types::{
     ByteText, Column, Fit, IndexDef, IndexKind, Kind, List, Row, Schema, TableDef, Value, fits,
 };

@@ -1,7 +1,7 @@
 //! The examples of docs/PROTOCOL.md, one after the other as they stand there.
 use super::{schema, told};
 use crate::handles_new;
-use hs_outside::Port;
+use request_types::Port;
 use std::test::Fail;
 
 /// Each with what becomes of it.

@@ -1,6 +1,6 @@
 //! Lines of the writing port that are refused, with their codes.
 use super::{connection, schema, told};
-use hs_outside::Port;
+use request_types::Port;
 use std::test::Fail;
 
 /// Lines of the writing port and the codes of their refusals, in the order of the checks.

@@ -3,7 +3,7 @@ ghost use Rattle.std.specs.Prelude.{◌≡◌, true, nat_eq};
 ghost use Rattle.row_types.specs.Valid.{are_distinct};
 
 use crate::Session;
-use hs_outside::Port;
+use request_types::Port;
 use line_pipeline::Secrets;
 use row_types::{List, Schema};
 use std::alloc::{AllocError, Global};

@@ -5,7 +5,7 @@ ghost use Rattle.table_rows.specs.Checks.{IsRow};
 ghost use Rattle.table_rows.specs.Examples.{some_columns, some_schema, IsPlay};
 
 use crate::{SlotRef, Tables, UndoList, Verdict};
-use row_store::Edge;
+use crate::edge::Edge;
 use row_types::Row;
 use std::alloc::AllocError;
 

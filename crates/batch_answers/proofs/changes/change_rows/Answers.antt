@@ -1,5 +1,5 @@
 use Rattle.std.proofs.Common.{length, ap, sym, subst, ◌∙◌}
-use Rattle.find_filter.specs.Fits.{AreNumbers}
+use Rattle.request_types.specs.Fits.{AreNumbers}
 use Rattle.table_rows.specs.Rows.{columns_of}
 use Rattle.find_modify.specs.Change.{changed_all}
 use Rattle.batch_answers.proofs.Asked.{count_chosen, made_is, count_is}

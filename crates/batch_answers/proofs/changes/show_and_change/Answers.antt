@@ -1,7 +1,7 @@
 use Rattle.std.proofs.Common.{◌≡◌, ℕ, List, ◌++◌, length, take, ap, ap₂, sym, subst, ◌∙◌, append-nil, arith}
 use Rattle.std.proofs.Math.Seq.{take-append_seam}
 use Rattle.std.proofs.lemmas.Result.{on_ok_weaker}
-use Rattle.find_filter.specs.Fits.{AreNumbers}
+use Rattle.request_types.specs.Fits.{AreNumbers}
 use Rattle.table_rows.specs.Rows.{columns_of}
 use Rattle.find_scan.specs.Show.{find_reply}
 use Rattle.find_scan.specs.Rendering.{rows_at, shown}

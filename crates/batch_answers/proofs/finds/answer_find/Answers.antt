@@ -1,6 +1,6 @@
 use Rattle.std.proofs.Common.{ℕ, List, ◌++◌, ap, ap₂, sym, subst, ◌∙◌, append-nil}
 use Rattle.std.proofs.lemmas.Result.{on_ok_weaker}
-use Rattle.find_filter.specs.Fits.{AreNumbers}
+use Rattle.request_types.specs.Fits.{AreNumbers}
 use Rattle.table_rows.specs.Rows.{columns_of}
 use Rattle.find_scan.specs.Show.{find_reply}
 use Rattle.find_scan.specs.Rendering.{rows_at, shown}

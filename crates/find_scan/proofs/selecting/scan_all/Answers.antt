@@ -1,6 +1,6 @@
 use Rattle.std.proofs.Common.{◌∙◌, [], ◌++◌, List, sym, ap, Option}
 use Rattle.row_types.specs.declared.values.Value.{Value}
-use Rattle.find_filter.specs.declared.finds.InSpec.{InSpec}
+use Rattle.request_types.specs.declared.finds.InSpec.{InSpec}
 use Rattle.find_scan.specs.Select.{found, keys_of, matching}
 use Rattle.find_scan.specs.Gathering.{gives}
 use Rattle.find_scan.proofs.Gathered.{on_ok}

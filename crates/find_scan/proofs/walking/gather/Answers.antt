@@ -1,7 +1,7 @@
 use Rattle.std.proofs.Common.{◌≡◌, true, List, ◌++◌, sym, ap, subst, ◌∙◌}
 use Rattle.std.proofs.lemmas.Bool.{true≢false}
 use Rattle.row_types.specs.declared.values.Value.{Value}
-use Rattle.row_store.specs.Entries.{Entry}
+use Rattle.table_rows.specs.Entries.{Entry}
 use Rattle.find_scan.specs.Gathering.{AreWideFor, gives, has_key, front_of}
 use Rattle.find_scan.proofs.Gathered.{front_first}
 use Rattle.find_scan.proofs.walking.gather.Goals as goal

@@ -1,5 +1,5 @@
 use Rattle.std.proofs.Common.{◌≡◌, ◌++◌, List, length}
-use Rattle.row_store.specs.Entries.{Entry}
+use Rattle.table_rows.specs.Entries.{Entry}
 use Rattle.find_scan.specs.Gathering.{AreWideFor, gives, front_of}
 use Rattle.find_scan.proofs.walking.gather.Given as goal
 

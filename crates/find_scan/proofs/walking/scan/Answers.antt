@@ -1,6 +1,6 @@
 use Rattle.std.proofs.Common.{◌≡◌, List, ◌++◌, length, sym, ap, subst, ◌∙◌, arith}
-use Rattle.row_store.specs.Entries.{Entry}
-use Rattle.find_filter.specs.declared.filters.FilterSpec.{FilterSpec}
+use Rattle.table_rows.specs.Entries.{Entry}
+use Rattle.request_types.specs.declared.filters.FilterSpec.{FilterSpec}
 use Rattle.table_rows.specs.declared.bound.Bound.{Bound}
 use Rattle.table_rows.specs.Walks.{walk_of, walked}
 use Rattle.find_scan.specs.Select.{columns_for}

@@ -1,6 +1,6 @@
 use Rattle.std.proofs.Common.{◌++◌, List, map, ℕ, ap, ◌∙◌}
 use Rattle.std.proofs.lemmas.Result.{on_ok_weaker}
-use Rattle.row_store.specs.Entries.{Entry}
+use Rattle.table_rows.specs.Entries.{Entry}
 use Rattle.replay_turns.specs.Shown.{rows_lines}
 use Rattle.replay_turns.proofs.Shows.{walk_shown}
 use Rattle.replay_turns.proofs.showing.push_rows.Goals as goal

@@ -1,5 +1,5 @@
 use Rattle.std.proofs.Common.{◌≡◌, ◌++◌, map, length}
-use Rattle.row_store.specs.Entries.{Entry}
+use Rattle.table_rows.specs.Entries.{Entry}
 use Rattle.replay_turns.specs.Shown.{rows_lines}
 use Rattle.replay_turns.proofs.showing.push_walk.Given as goal
 

@@ -1,6 +1,6 @@
 use Rattle.std.proofs.Common.{◌≡◌, drop}
 use Rattle.std.specs.List.{list_any}
-use Rattle.row_store.specs.Entries.{cells}
+use Rattle.table_rows.specs.Entries.{cells}
 use Rattle.table_rows.specs.Checks.{is_null}
 use Rattle.table_rows.proofs.checks.has_null.Given as goal
 

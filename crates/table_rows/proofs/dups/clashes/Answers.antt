@@ -1,6 +1,6 @@
 use Rattle.std.proofs.Common.{◌≡◌, None, Some, true, sym, ◌∙◌}
-use Rattle.row_store.specs.Walks.{first_like, slot_in}
-use Rattle.row_store.specs.Entries.{cells}
+use Rattle.table_rows.specs.StoreWalks.{first_like, slot_in}
+use Rattle.table_rows.specs.Entries.{cells}
 use Rattle.table_rows.specs.Checks.{is_barred}
 use Rattle.table_rows.specs.Table.{columns_by, walk_by}
 use Rattle.table_rows.proofs.Clashes.{clash_unbarred, clash_no_slot, clash_first}

@@ -1,6 +1,6 @@
 use Rattle.std.proofs.Common.{sym, subst}
 use Rattle.row_types.specs.declared.tables.Schema.{Schema}
-use Rattle.find_filter.specs.Fits.{FindFits}
+use Rattle.request_types.specs.Fits.{FindFits}
 use Rattle.find_scan.proofs.Plays.{find_fits}
 use Rattle.find_scan.proofs.tests.table.ids.Goals as goal
 

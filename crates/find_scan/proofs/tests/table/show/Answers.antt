@@ -1,7 +1,7 @@
 use Rattle.std.proofs.Common.{◌∙◌, List, sym, ap, subst, arith}
 use Rattle.row_types.specs.declared.columns.Column.{Column}
 use Rattle.row_types.specs.declared.tables.Schema.{Schema}
-use Rattle.find_filter.specs.Fits.{AreNumbers, FindFits}
+use Rattle.request_types.specs.Fits.{AreNumbers, FindFits}
 use Rattle.table_rows.specs.Rows.{columns_of}
 use Rattle.find_scan.proofs.Plays.{find_fits, play_columns}
 use Rattle.find_scan.proofs.tests.table.show.Goals as goal

@@ -1,7 +1,7 @@
 use Rattle.std.proofs.Common.{◌≡◌, ◌∷◌, ◌∙◌, List, true, false, sym, ap, subst}
 use Rattle.std.specs.List.{AllByRecursion}
-use Rattle.hs_outside.specs.declared.connections.ConnId.{ConnId}
-use Rattle.line_pipeline.specs.declared.batches.Part.{Part}
+use Rattle.request_types.specs.declared.connections.ConnId.{ConnId}
+use Rattle.request_types.specs.declared.batches.Part.{Part}
 use Rattle.line_pipeline.specs.declared.conns.Conn.{Conn}
 use Rattle.line_pipeline.specs.Conn.{answered}
 use Rattle.line_pipeline.specs.Table.{Table, is_listed, are_once, changed}

@@ -1,5 +1,5 @@
 use Rattle.std.proofs.Common.{ap, map}
-use Rattle.line_pipeline.specs.declared.batches.Item.{Item}
+use Rattle.request_types.specs.declared.batches.Item.{Item}
 use Rattle.line_pipeline.specs.Conn.{closed}
 use Rattle.line_pipeline.proofs.TableLemmas.{kept, ends, goes_on_by, at_end, closed-twice}
 use Rattle.line_pipeline.proofs.tables.ConnTable.close_items.Goals as goal

@@ -1,7 +1,7 @@
 use Rattle.std.proofs.Common.{◌≡◌, ◌++◌, ◌∙◌, List, refl, ap, sym, subst}
 use Rattle.std.specs.List.{filter, AllByRecursion}
-use Rattle.hs_outside.specs.declared.connections.ConnId.{ConnId}
-use Rattle.line_pipeline.specs.declared.batches.Item.{Item}
+use Rattle.request_types.specs.declared.connections.ConnId.{ConnId}
+use Rattle.request_types.specs.declared.batches.Item.{Item}
 use Rattle.line_pipeline.specs.declared.conns.Conn.{Conn}
 use Rattle.line_pipeline.specs.declared.reasons.Reason.TheVariants as reasons
 use Rattle.line_pipeline.specs.Conn.{took, closed, refused}

@@ -1,6 +1,6 @@
 use Rattle.std.proofs.Common.{◌≡◌, ◌∙◌, List, sym, ap, subst}
 use Rattle.std.specs.List.{AllByRecursion}
-use Rattle.line_pipeline.specs.declared.batches.Part.{Part}
+use Rattle.request_types.specs.declared.batches.Part.{Part}
 use Rattle.line_pipeline.specs.Settled.{asked_by, answered_by, parts_of, HasPlace}
 use Rattle.line_pipeline.proofs.SettleLemmas.{places-listed}
 use Rattle.line_pipeline.proofs.tables.ConnTable.settle.Goals as goal

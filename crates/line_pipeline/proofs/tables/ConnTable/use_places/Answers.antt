@@ -1,5 +1,5 @@
 use Rattle.std.proofs.Common.{ap, map}
-use Rattle.line_pipeline.specs.declared.batches.Item.{Item}
+use Rattle.request_types.specs.declared.batches.Item.{Item}
 use Rattle.line_pipeline.specs.Conn.{place_used}
 use Rattle.line_pipeline.proofs.TableLemmas.{kept, ends, goes_on_by, at_end, place_used-twice}
 use Rattle.line_pipeline.proofs.tables.ConnTable.use_places.Goals as goal

@@ -1,5 +1,5 @@
 use Rattle.std.proofs.Common.{◌≡◌, ◌∙◌, List, Option, Some, length, sym, ap, arith, option_map}
-use Rattle.hs_outside.specs.declared.ports.Port.{Port}
+use Rattle.request_types.specs.declared.ports.Port.{Port}
 use Rattle.replay_turns.specs.declared.entries.Entry.{Entry}
 use Rattle.replay_turns.specs.Linked.{Linked, linked_at, has_ended}
 use Rattle.replay_turns.specs.Connected.{Connected}

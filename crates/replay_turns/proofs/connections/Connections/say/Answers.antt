@@ -1,5 +1,5 @@
 use Rattle.std.proofs.Common.{◌≡◌, ◌∙◌, List, length, set, refl, sym, ap, arith}
-use Rattle.hs_outside.specs.declared.connections.ConnId.{ConnId}
+use Rattle.request_types.specs.declared.connections.ConnId.{ConnId}
 use Rattle.replay_turns.specs.Linked.{Linked, on}
 use Rattle.replay_turns.specs.Sayings.{said}
 use Rattle.replay_turns.specs.Entries.{place_from, conn_of, beside, all_linked}

@@ -1,7 +1,7 @@
 use Rattle.std.proofs.Common.{◌≡◌, Bool, true, false, List, IfSome, ap, sym, subst, ◌∙◌}
-use Rattle.row_store.specs.Entries.{Entry}
-use Rattle.row_store.specs.Walks.{slot_in, first_from, last_to}
-use Rattle.row_store.specs.Contents.{columns_of}
+use Rattle.table_rows.specs.Entries.{Entry}
+use Rattle.table_rows.specs.StoreWalks.{slot_in, first_from, last_to}
+use Rattle.table_rows.specs.Contents.{columns_of}
 use Rattle.table_rows.specs.Slots.{is_live}
 use Rattle.table_rows.specs.Table.{Table, table_in, columns_by, walk_by}
 use Rattle.table_rows.specs.Walks.{begun}

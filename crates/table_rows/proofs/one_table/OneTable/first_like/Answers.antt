@@ -1,7 +1,7 @@
 use Rattle.std.proofs.Common.{◌≡◌, List, ap, subst, ◌∙◌}
-use Rattle.row_store.specs.Entries.{Entry}
-use Rattle.row_store.specs.Walks.{slot_in, first_like}
-use Rattle.row_store.specs.Contents.{order_of}
+use Rattle.table_rows.specs.Entries.{Entry}
+use Rattle.table_rows.specs.StoreWalks.{slot_in, first_like}
+use Rattle.table_rows.specs.Contents.{order_of}
 use Rattle.table_rows.specs.Table.{Table, table_in, parts_by, walk_by}
 use Rattle.table_rows.proofs.Seen.{walk_seen}
 use Rattle.table_rows.proofs.one_table.OneTable.first_like.Goals as goal

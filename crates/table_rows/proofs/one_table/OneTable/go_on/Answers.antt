@@ -1,7 +1,7 @@
 use Rattle.std.proofs.Common.{◌≡◌, Bool, true, false, List, IfSome, ap, sym, subst, ◌∙◌}
-use Rattle.row_store.specs.Entries as store
-use Rattle.row_store.specs.Entries.{Entry, kept, vacancies, row_at, walk}
-use Rattle.row_store.specs.Walks.{slot_in, behind, in_front}
+use Rattle.table_rows.specs.Entries as store
+use Rattle.table_rows.specs.Entries.{Entry, kept, vacancies, row_at, walk}
+use Rattle.table_rows.specs.StoreWalks.{slot_in, behind, in_front}
 use Rattle.table_rows.specs.Slots.{is_live}
 use Rattle.table_rows.specs.Table.{Table, table_in, walk_by}
 use Rattle.table_rows.specs.Walks.{gone_on}

@@ -1,6 +1,6 @@
 use Rattle.std.proofs.Common.{◌≡◌, ◌<◌, length, subst}
-use Rattle.row_store.specs.Entries.{kept, vacancies}
-use Rattle.row_store.specs.Walks.{IsNew}
+use Rattle.table_rows.specs.Entries.{kept, vacancies}
+use Rattle.table_rows.specs.StoreWalks.{IsNew}
 use Rattle.table_rows.specs.Slots.{IsVacant}
 use Rattle.table_rows.specs.Table.{Table, table_in, with_row_in}
 use Rattle.table_rows.proofs.Kept.{room_left, new_to_kept, vacant_there}

@@ -1,7 +1,7 @@
 use Rattle.std.proofs.Common.{◌≡◌, subst}
-use Rattle.row_store.specs.Entries as store
-use Rattle.row_store.specs.Entries.{Entry, kept, vacancies, row_at, walk}
-use Rattle.row_store.specs.Walks.{IsNew}
+use Rattle.table_rows.specs.Entries as store
+use Rattle.table_rows.specs.Entries.{Entry, kept, vacancies, row_at, walk}
+use Rattle.table_rows.specs.StoreWalks.{IsNew}
 use Rattle.table_rows.specs.Slots.{IsVacant}
 use Rattle.table_rows.specs.Table.{Table, table_in, with_row_in}
 use Rattle.table_rows.proofs.Kept.{vacant_here, new_to_kept}

@@ -1,7 +1,7 @@
 use Rattle.std.proofs.Common.{◌≡◌, set, true, None, subst}
-use Rattle.row_store.specs.Entries as store
-use Rattle.row_store.specs.Entries.{Entry, kept, vacancies, row_at, walk}
-use Rattle.row_store.specs.Walks.{IsNew}
+use Rattle.table_rows.specs.Entries as store
+use Rattle.table_rows.specs.Entries.{Entry, kept, vacancies, row_at, walk}
+use Rattle.table_rows.specs.StoreWalks.{IsNew}
 use Rattle.table_rows.specs.Slots.{is_live, row_of, without}
 use Rattle.table_rows.specs.Table.{Table, table_in, with_row_in}
 use Rattle.table_rows.proofs.Kept.{live_store, live_there, new_to_gone, row_there}

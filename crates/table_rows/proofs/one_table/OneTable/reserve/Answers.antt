@@ -1,6 +1,6 @@
 use Rattle.std.proofs.Common.{◌≡◌, ◌≤◌, ◌+◌, ℕ, length, None, OnOk, OnErr, Result, Ok, Err, subst}
-use Rattle.row_store.specs.Entries.{vacancies, walk}
-use Rattle.row_store.specs.Contents.{Contents}
+use Rattle.table_rows.specs.Entries.{vacancies, walk}
+use Rattle.table_rows.specs.Contents.{Contents}
 use Rattle.table_rows.specs.Table.{Table, table_in, with_room}
 use Rattle.std.specs.Prelude.{◌++◌, ◌-◌, replicate}
 use Rattle.table_rows.proofs.Seen.{roomy_seen, same_seen, room_seen}

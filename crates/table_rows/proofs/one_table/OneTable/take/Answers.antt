@@ -1,6 +1,6 @@
 use Rattle.std.proofs.Common.{◌≡◌, true, subst}
-use Rattle.row_store.specs.Entries as store
-use Rattle.row_store.specs.Entries.{Entry, kept, vacancies, row_at, walk}
+use Rattle.table_rows.specs.Entries as store
+use Rattle.table_rows.specs.Entries.{Entry, kept, vacancies, row_at, walk}
 use Rattle.table_rows.specs.Slots.{is_live, row_of}
 use Rattle.table_rows.specs.Table.{Table, table_in, without_in}
 use Rattle.table_rows.proofs.Kept.{live_store, row_there}

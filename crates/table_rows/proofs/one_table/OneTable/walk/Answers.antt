@@ -1,7 +1,7 @@
 use Rattle.std.proofs.Common.{◌≡◌, Bool, true, false, List, ap, sym, subst, ◌∙◌}
-use Rattle.row_store.specs.Entries.{Entry}
-use Rattle.row_store.specs.Contents.{columns_of}
-use Rattle.row_store.specs.Walked.{upward, downward}
+use Rattle.table_rows.specs.Entries.{Entry}
+use Rattle.table_rows.specs.Contents.{columns_of}
+use Rattle.table_rows.specs.Walked.{upward, downward}
 use Rattle.table_rows.specs.declared.bound.Bound.{Bound}
 use Rattle.table_rows.specs.declared.bound.Bound.TheVariants.{From, Behind, To, Before}
 use Rattle.table_rows.specs.Table.{Table, table_in, columns_by, walk_by}

@@ -1,5 +1,5 @@
 use Rattle.std.proofs.Common.{◌≡◌, ◌+◌, ap, sym, subst, ◌∙◌, arith}
-use Rattle.row_store.specs.Walks.{IsNew}
+use Rattle.table_rows.specs.StoreWalks.{IsNew}
 use Rattle.table_rows.specs.Slots.{IsVacant, with_row_at}
 use Rattle.table_rows.specs.Sizes.{total}
 use Rattle.table_rows.specs.Table.{Table, with_row_in}

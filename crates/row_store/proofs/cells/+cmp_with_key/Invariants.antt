@@ -1,5 +1,0 @@
-use Rattle.std.proofs.Common.{length}
-use Rattle.row_store.proofs.cells.+cmp_with_key.Given as goal
-
-abbrev pub decreases-cmp_with_key : goal.decreases-cmp_with_key
-decreases-cmp_with_key l = length l.columns.now

@@ -1,9 +1,0 @@
-use Rattle.std.proofs.Common.{ap, ◌∙◌}
-use Rattle.row_store.specs.Contents.{Contents}
-use Rattle.row_store.proofs.LiveSlots.{find_live, walk_up, live_answer}
-use Rattle.row_store.proofs.store.RowStore.first_from.Goals as goal
-
-pub returns-clause-live : goal.returns-clause-live
-returns-clause-live c =
-    let rows = c.as_slice.result.now in
-    live_answer rows c.args.self.now.slots c.first_from.result _ c.first_from.ensures (c.as_slice.ensures.value ∙ ap (λ (s : Contents). s.slots) c.self.view_is) (find_live rows _ _ (walk_up rows _))
