@@ -12,7 +12,7 @@ use crate::sayings::Saying;
 use crate::showing::{push_rows, table_at};
 use request_types::Port;
 use line_pipeline::Secrets;
-use row_types::{Schema, copy_schema};
+use row_types::Schema;
 use std::alloc::{AllocError, Global};
 use std::marker::Model;
 use table_rows::{Tables, UndoList};
@@ -60,8 +60,8 @@ impl Session {
           conns = [];
         }) }
     {
-        let own = copy_schema(alloc, schema)?;
-        let other = copy_schema(alloc, schema)?;
+        let own = schema.copy(alloc)?;
+        let other = schema.copy(alloc)?;
         Ok(Session {
             schema: own,
             tables: Tables::new(alloc, schema, bytes_max)?,

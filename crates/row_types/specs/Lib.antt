@@ -2,3 +2,4 @@ pub mod Order
 pub mod Fit
 pub mod Size
 pub mod Valid
+pub mod formers

@@ -41,6 +41,13 @@ impl ByteText {
     {
         self.bytes.as_slice()
     }
+
+    /// An equal text with memory of its own.
+    pub fn copy(&self, alloc: Global) -> Result<ByteText, AllocError>
+        ensures { IfOk result (λ copy. copy ≡ self.now) }
+    {
+        ByteText::of(alloc, self.as_slice())
+    }
 }
 
 impl PartialEq for ByteText {

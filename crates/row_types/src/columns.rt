@@ -1,9 +1,12 @@
 //! A column, and whether it holds a value.
-ghost use Rattle.std.specs.Prelude.{◌≡◌};
+ghost use Rattle.std.specs.Prelude.{◌≡◌, IfOk};
 ghost use Rattle.row_types.specs.Fit.{fit_of};
 
 use crate::byte_text::ByteText;
+use crate::lists::List;
+use crate::rows::copy_value;
 use crate::values::Value;
+use std::alloc::{AllocError, Global};
 
 /// What a column's values are: integers of 64 bits, or texts of at most so many bytes.
 #[derive(Clone, Copy, Debug, PartialEq, Eq)]
@@ -19,6 +22,31 @@ pub struct Column {
     pub kind: Kind,
     pub null: bool,
     pub preset: Value,
+}
+
+impl Column {
+    /// An equal column with memory of its own.
+    pub fn copy(&self, alloc: Global) -> Result<Column, AllocError>
+        ensures { IfOk result (λ copy. copy ≡ self.now) }
+    {
+        Ok(Column {
+            name: self.name.copy(alloc)?,
+            kind: self.kind,
+            null: self.null,
+            preset: copy_value(alloc, &self.preset)?,
+        })
+    }
+}
+
+/// Equal columns with memory of their own.
+pub(crate) fn copy_columns(alloc: Global, columns: &[Column]) -> Result<List<Column>, AllocError>
+    ensures { IfOk result (λ copy. copy ≡ columns.now) }
+{
+    let mut copies = Vec::with_capacity(alloc, columns.len())?;
+    for column in columns {
+        copies.push(column.copy(alloc)?)?;
+    }
+    Ok(List::of_vec(copies))
 }
 
 /// Whether a column holds a value, and if not, why.

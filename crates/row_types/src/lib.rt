@@ -5,7 +5,7 @@
 //! | `Value` | NULL, an integer of 64 bits with its sign, or a text of bytes |
 //! | `Row`, `RowKey` | a list of values: of a table's columns, or of an index's parts |
 //! | `Column`, `IndexDef`, `TableDef`, `Schema` | the shape of tables |
-//! | `List`, `ByteText` | a `Vec` that contracts see as the list of its items |
+//! | `List`, `ByteText` | a `Vec` that contracts see as the list of its items. A type may hold itself through `List` |
 //!
 //! NULL stands before every integer, an integer before every text; texts go by their bytes. Which schema is valid,
 //! and how one is spelled, is the work of `hs_schema`; how rows are kept, that of `table_rows`.
@@ -17,7 +17,6 @@ mod indexes;
 mod laws;
 mod lists;
 mod rows;
-mod schema_copies;
 mod tables;
 #[cfg(test)]
 mod tests;
@@ -29,6 +28,5 @@ pub use indexes::{IndexDef, IndexKind};
 pub use laws::{orders_are_total, orders_of_examples};
 pub use lists::List;
 pub use rows::{Row, RowKey, cmp_keys, cmp_prefix, copy_row, copy_value, row_size};
-pub use schema_copies::copy_schema;
 pub use tables::{Schema, TableDef};
 pub use values::{Value, cmp_values};

@@ -4,7 +4,7 @@ ghost use Rattle.std.specs.Prelude.{◌≡◌, [], ◌∷◌, ◌++◌, OnOk, On
 use std::alloc::{AllocError, Global};
 use std::marker::Model;
 
-/// Items in order. A type that leads back to itself holds its parts in `Items` of `sqlite_items`, which contracts see alike.
+/// Items in order. A type may hold itself through it.
 #[derive(Debug, Drop)]
 pub struct List<T> {
     items: Vec<T>,

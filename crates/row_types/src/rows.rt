@@ -3,7 +3,6 @@ ghost use Rattle.std.specs.Prelude.{◌≡◌, ◌<◌, ◌≤◌, ◌^◌, leng
 ghost use Rattle.row_types.specs.Order.{key_cmp, prefix_cmp};
 ghost use Rattle.row_types.specs.Size.{value_size, row_size};
 
-use crate::byte_text::ByteText;
 use crate::lists::List;
 use crate::values::{Value, cmp_values};
 use std::alloc::{AllocError, Global};
@@ -31,7 +30,8 @@ pub fn cmp_prefix(key: &RowKey, prefix: &RowKey) -> Ordering
     key.as_slice()[..parts.len()].cmp(parts)
 }
 
-/// The bytes that a row counts against the limit on all rows. It is what the limit speaks of, and not what a row takes in memory.
+/// The bytes that a row counts against the limit on all rows. It is what the limit speaks of, and not
+/// what a row takes in memory.
 pub fn row_size(row: &Row) -> u64
     requires { row_size row.now < 2 ^ 64 }
     ensures { result ≡ row_size row.now }
@@ -73,6 +73,6 @@ pub fn copy_value(alloc: Global, value: &Value) -> Result<Value, AllocError>
     match value {
         Value::Null => Ok(Value::Null),
         Value::Int(number) => Ok(Value::Int(*number)),
-        Value::Text(text) => Ok(Value::Text(ByteText::of(alloc, text.as_slice())?)),
+        Value::Text(text) => Ok(Value::Text(text.copy(alloc)?)),
     }
 }

@@ -26,7 +26,7 @@ use crate::undo_list::UndoList;
 use crate::verdict::Verdict;
 use crate::walk::Walk;
 use crate::edge::Edge;
-use row_types::{Row, RowKey, Schema, TableDef, Value, copy_schema, row_size};
+use row_types::{Row, RowKey, Schema, TableDef, Value, row_size};
 use std::alloc::{AllocError, Global};
 use std::marker::Model;
 
@@ -61,7 +61,7 @@ impl Tables {
         ensures { IfOk result (λ tables. tables ≡ empty_state schema.now bytes_max) }
     {
         let stores = empty_tables(alloc, schema.tables.as_slice())?;
-        let copy = copy_schema(alloc, schema)?;
+        let copy = schema.copy(alloc)?;
         Ok(Tables {
             schema: copy,
             bytes_max,

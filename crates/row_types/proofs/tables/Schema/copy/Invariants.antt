@@ -1,5 +1,5 @@
 use Rattle.std.proofs.Common.{◌≡◌, take}
-use Rattle.row_types.proofs.schema_copies.copy_schema.Given as goal
+use Rattle.row_types.proofs.tables.Schema.copy.Given as goal
 
 abbrev pub invariant-loop-table : goal.invariant-loop-table
 invariant-loop-table l = l.copies.items ≡ take l.table-index l.tables

@@ -1,5 +1,5 @@
 use Rattle.std.proofs.Common.{◌≡◌, take}
-use Rattle.row_types.proofs.schema_copies.copy_indexes.Given as goal
+use Rattle.row_types.proofs.indexes.copy_indexes.Given as goal
 
 abbrev pub invariant-loop-index : goal.invariant-loop-index
 invariant-loop-index l = l.copies.items ≡ take l.index-index l.indexes

@@ -1,5 +1,5 @@
 use Rattle.std.proofs.Common.{◌≡◌, take}
-use Rattle.row_types.proofs.schema_copies.copy_columns.Given as goal
+use Rattle.row_types.proofs.columns.copy_columns.Given as goal
 
 abbrev pub invariant-loop-column : goal.invariant-loop-column
 invariant-loop-column l = l.copies.items ≡ take l.column-index l.columns
