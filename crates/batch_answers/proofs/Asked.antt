@@ -40,11 +40,11 @@ use Rattle.find_modify.specs.declared.modifies.Modified.TheVariants as modified
 use Rattle.find_modify.specs.Change.{changed_all, IsDone}
 use Rattle.find_modify.specs.Change as modify
 use Rattle.find_modify.proofs.CellKinds.{ok_is}
-use Rattle.batch_answers.specs.Database.{Database, rows_alone, rows_in, database_of, placed, placed_in}
+use Rattle.table_rows.specs.Database.{Database, rows_alone, rows_in, database_of, placed, placed_in}
 use Rattle.batch_answers.specs.Replies.{code_reply, count_reply}
 use Rattle.batch_answers.specs.Answers.{chosen, rows_reply, changed, unless_big, unless_refused, row_cmp, with_new, unless_barred, insert_answered, change_answered}
 use Rattle.batch_answers.specs.Steps.{reply_of}
-use Rattle.batch_answers.proofs.Alone.{roomier_same}
+use Rattle.table_rows.proofs.Alone.{roomier_same}
 use Rattle.batch_answers.proofs.Moved.{all_moved, alone_moved, put_alone}
 use Rattle.batch_answers.proofs.Chosen.{selected_moved}
 use Rattle.batch_answers.proofs.Changed.{moved_slot, Same, none_same, all_same}

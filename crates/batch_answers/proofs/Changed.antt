@@ -20,8 +20,8 @@ use Rattle.table_rows.specs.Checks.{null_column, dup_index, first_found}
 use Rattle.row_insert.specs.Refusal.{is_too_long, code_of, refusal_of}
 use Rattle.find_modify.specs.Cells.{◌>>=◌, changed_row}
 use Rattle.find_modify.specs.Change.{unless_refused, with_instead, deletes, changed_one, changed_all}
-use Rattle.batch_answers.specs.Database.{rows_alone, rows_in}
-use Rattle.batch_answers.proofs.Alone.{bytes_of, total_alone}
+use Rattle.table_rows.specs.Database.{rows_alone, rows_in}
+use Rattle.table_rows.proofs.Alone.{bytes_of, total_alone}
 use Rattle.batch_answers.proofs.Moved.{all_moved, alone_moved, dup_moved, without_moved, row_moved, put_moved}
 
 -- all tables have the same rows, those of this one in slots that stand for each other

@@ -1,6 +1,5 @@
 pub mod Moved
 pub mod Chosen
-pub mod Alone
 pub mod Changed
 pub mod Named
 pub mod Going

@@ -14,7 +14,7 @@ use Rattle.table_rows.specs.Entries.{Entry, entry_cmp}
 use Rattle.table_rows.specs.Indexes.{primary_of}
 use Rattle.table_rows.specs.Slots.{is_in, row_in, row_of, with_row, without}
 use Rattle.table_rows.specs.Checks.{meets, clashes}
-use Rattle.batch_answers.specs.Database.{rows_alone}
+use Rattle.table_rows.specs.Database.{rows_alone}
 use Rattle.batch_answers.specs.Answers.{row_cmp}
 
 -- an entry in the slot that stands for its own

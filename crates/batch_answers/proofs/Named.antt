@@ -13,8 +13,8 @@ use Rattle.table_rows.specs.Slots.{is_in}
 use Rattle.table_rows.specs.Valid.{IsValidState}
 use Rattle.table_rows.proofs.BySlot.{HaveOwnSlots}
 use Rattle.table_rows.proofs.States.{rows_valid}
-use Rattle.batch_answers.specs.Database.{rows_alone, rows_in, placed_from, placed}
-use Rattle.batch_answers.proofs.Alone.{tables_placed}
+use Rattle.table_rows.specs.Database.{rows_alone, rows_in, placed_from, placed}
+use Rattle.table_rows.proofs.Alone.{tables_placed}
 use Rattle.batch_answers.proofs.Moved.{all_moved}
 use Rattle.batch_answers.proofs.Changed.{AreMoved}
 

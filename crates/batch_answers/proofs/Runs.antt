@@ -10,7 +10,7 @@ use Rattle.request_types.specs.declared.batches.Item.{Item}
 use Rattle.request_types.specs.declared.batches.ItemKind.{ItemKind}
 use Rattle.request_types.specs.declared.batches.Part.{Part}
 use Rattle.line_pipeline.specs.Table.{same_id}
-use Rattle.batch_answers.specs.Database.{Database}
+use Rattle.table_rows.specs.Database.{Database}
 use Rattle.batch_answers.specs.Answers.{answered, replies_to, after_all}
 use Rattle.batch_answers.specs.Batches.{with_item, runs_of, parts_of, after_runs}
 use Rattle.batch_answers.specs.Steps.{ends_run, first_behind}

@@ -24,7 +24,7 @@ use Rattle.row_insert.specs.Insert.{new_row}
 use Rattle.find_modify.specs.Change.{changed_all}
 use Rattle.request_types.specs.declared.batches.ItemKind.{ItemKind}
 use Rattle.request_types.specs.declared.batches.ItemKind.TheVariants as kinds
-use Rattle.batch_answers.specs.Database.{Database, database_of, placed_in, rows_alone}
+use Rattle.table_rows.specs.Database.{Database, database_of, placed_in, rows_alone}
 use Rattle.batch_answers.specs.Replies.{code_reply, count_reply, big}
 
 -- The rows that a find selects, each with its place.

@@ -12,7 +12,7 @@ use Rattle.request_types.specs.declared.mods.ModKind.{ModKind}
 use Rattle.request_types.specs.declared.mods.ModSpec.{ModSpec}
 use Rattle.request_types.specs.declared.inserts.InsertSpec.{InsertSpec}
 use Rattle.find_scan.specs.Examples.{some_schema, row}
-use Rattle.batch_answers.specs.Database.{Database}
+use Rattle.table_rows.specs.Database.{Database}
 
 -- The only table with these rows, which may fill so many bytes.
 abbrev pub rows_within : ℕ → List (List Value) → Database

@@ -1,4 +1,3 @@
-pub mod Database
 pub mod Replies
 pub mod Answers
 pub mod Batches

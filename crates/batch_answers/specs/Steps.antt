@@ -1,24 +1,11 @@
 -- What the steps of a batch say. No public clause cites these.
-use Rattle.std.specs.Prelude.{◌≡◌, ℕ, ◌≤◌, Bool, true, not, List, [], ◌∷◌, ◌++◌, length, take}
-use Rattle.table_rows.specs.declared.undo.Undo.{Undo}
-use Rattle.table_rows.specs.Rows.{State}
-use Rattle.table_rows.specs.Undoing.{since, LeadsBack}
-use Rattle.table_rows.specs.Widths.{IsRoomier}
+use Rattle.std.specs.Prelude.{ℕ, Bool, true, not, List, [], ◌∷◌, ◌++◌}
 use Rattle.find_modify.specs.declared.modifies.Modified.{Modified}
 use Rattle.find_modify.specs.declared.modifies.Modified.TheVariants.{Done, Refused}
 use Rattle.request_types.specs.declared.batches.Item.{Item}
 use Rattle.request_types.specs.declared.batches.Part.{Part}
 use Rattle.line_pipeline.specs.Table.{same_id}
 use Rattle.batch_answers.specs.Replies.{code_reply}
-
--- Earlier changes are still noted, and what was noted since leads back to the same rows, in as many slots or more.
-pub record CanGoBack (before after : State) (undos more : List Undo) : Type 0 where
-  pub schema : after.schema ≡ before.schema
-  pub most : length undos ≤ length more
-  pub noted : take (length undos) more ≡ undos
-  pub between : State
-  pub roomier : IsRoomier before between
-  pub back : LeadsBack (since (length undos) more) after between
 
 -- What is answered where a change gave this, and this reply is meant for one that is done.
 abbrev pub reply_of : List ℕ → Modified → List ℕ

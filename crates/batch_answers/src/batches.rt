@@ -1,9 +1,10 @@
 //! Running a batch.
 ghost use Rattle.std.specs.Prelude.{◌≡◌, ◌<◌, drop, length, IfOk, OnOk, OnErr};
 ghost use Rattle.std.specs.List.{AllByRecursion};
-ghost use Rattle.batch_answers.specs.Database.{database_of};
+ghost use Rattle.table_rows.specs.Database.{database_of};
 ghost use Rattle.batch_answers.specs.Batches.{ItemFits, runs_of, parts_of, after_runs};
-ghost use Rattle.batch_answers.specs.Steps.{CanGoBack, ends_run};
+ghost use Rattle.table_rows.specs.GoingBack.{CanGoBack};
+ghost use Rattle.batch_answers.specs.Steps.{ends_run};
 
 use crate::items::answer;
 use request_types::{Batch, Item, Part, Replies};

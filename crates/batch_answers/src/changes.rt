@@ -6,9 +6,10 @@ ghost use Rattle.table_rows.specs.declared.slot_ref.SlotRef.{SlotRef as Slot};
 ghost use Rattle.table_rows.specs.Slots.{is_live_in};
 ghost use Rattle.find_scan.specs.Select.{selected, slots_of, AreDistinct};
 ghost use Rattle.find_modify.specs.declared.modifies.Modified.TheVariants.{Done};
-ghost use Rattle.batch_answers.specs.Database.{database_of};
+ghost use Rattle.table_rows.specs.Database.{database_of};
 ghost use Rattle.batch_answers.specs.Answers.{chosen, changed, unless_refused, change_answered};
-ghost use Rattle.batch_answers.specs.Steps.{CanGoBack, reply_of};
+ghost use Rattle.table_rows.specs.GoingBack.{CanGoBack};
+ghost use Rattle.batch_answers.specs.Steps.{reply_of};
 
 use crate::codes::{push_code, push_count};
 use find_modify::{Modified, modify};

@@ -1,7 +1,7 @@
 //! A find, as an item of a batch.
 ghost use Rattle.std.specs.Prelude.{◌≡◌, ◌++◌, OnOk};
 ghost use Rattle.request_types.specs.Fits.{FindFits};
-ghost use Rattle.batch_answers.specs.Database.{database_of};
+ghost use Rattle.table_rows.specs.Database.{database_of};
 ghost use Rattle.batch_answers.specs.Answers.{find_answered};
 
 use crate::codes::push_code;

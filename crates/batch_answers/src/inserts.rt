@@ -1,9 +1,9 @@
 //! An insert, as an item of a batch.
 ghost use Rattle.std.specs.Prelude.{◌≡◌, ◌++◌, OnOk};
 ghost use Rattle.request_types.specs.Fits.{InsertFits};
-ghost use Rattle.batch_answers.specs.Database.{database_of};
+ghost use Rattle.table_rows.specs.Database.{database_of};
 ghost use Rattle.batch_answers.specs.Answers.{insert_answered};
-ghost use Rattle.batch_answers.specs.Steps.{CanGoBack};
+ghost use Rattle.table_rows.specs.GoingBack.{CanGoBack};
 
 use crate::codes::push_code;
 use request_types::InsertSpec;

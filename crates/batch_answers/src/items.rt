@@ -1,9 +1,9 @@
 //! An item of a batch.
 ghost use Rattle.std.specs.Prelude.{◌≡◌, ◌++◌, OnOk};
-ghost use Rattle.batch_answers.specs.Database.{database_of};
+ghost use Rattle.table_rows.specs.Database.{database_of};
 ghost use Rattle.batch_answers.specs.Answers.{answered};
 ghost use Rattle.batch_answers.specs.Batches.{KindFits};
-ghost use Rattle.batch_answers.specs.Steps.{CanGoBack};
+ghost use Rattle.table_rows.specs.GoingBack.{CanGoBack};
 
 use crate::changes::answer_change;
 use crate::codes::push_code;

@@ -16,7 +16,7 @@ use Rattle.line_pipeline.specs.Conn.{secret_of}
 use Rattle.replay_script.specs.declared.events.Event.{Event}
 use Rattle.replay_script.specs.declared.events.Event.TheVariants as events
 use Rattle.replay_script.specs.Events.{event_of}
-use Rattle.batch_answers.specs.Database.{empty_database}
+use Rattle.table_rows.specs.Database.{empty_database}
 use Rattle.replay_turns.specs.Linked.{Linked, linked_at, has_ended, opened, on, peer_sent, peer_ended, with_room, failing_next}
 use Rattle.replay_turns.specs.Session.{Session, turn}
 use Rattle.replay_turns.specs.Shown.{table_at, rows_shown}

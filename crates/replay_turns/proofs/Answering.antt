@@ -20,7 +20,7 @@ use Rattle.line_pipeline.specs.Conn.{took, answered, place_used, refused, closed
 use Rattle.line_pipeline.specs.Table.{Table, same_id, is_listed, are_once, conn_at, is_held, all_changed}
 use Rattle.line_pipeline.specs.Gathered.{items_at, batch_of}
 use Rattle.line_pipeline.specs.Settled.{asked_by, answered_by, told, all_told, settled, HasPlace, CanSettle}
-use Rattle.batch_answers.specs.Database.{Database}
+use Rattle.table_rows.specs.Database.{Database}
 use Rattle.batch_answers.specs.Batches.{KindFits, ItemFits, runs_of, parts_of}
 use Rattle.replay_turns.specs.declared.entries.Entry.{Entry}
 use Rattle.replay_turns.specs.Entries.{conn_or_none, conn_of, id_at, ids_at, ids_of, ConnFits, IsEntry, AreEntries}

@@ -16,7 +16,7 @@ use Rattle.line_pipeline.specs.Table.{same_id, is_listed, are_once, conn_at}
 use Rattle.line_pipeline.specs.Gathered.{items_at, batch_of}
 use Rattle.line_pipeline.specs.Settled.{answered_by}
 use Rattle.line_pipeline.proofs.Ids.{same_id-refl, same_id-is, same_id-other, once-head, once-tail}
-use Rattle.batch_answers.specs.Database.{Database}
+use Rattle.table_rows.specs.Database.{Database}
 use Rattle.batch_answers.specs.Answers.{replies_to, after_all}
 use Rattle.batch_answers.specs.Batches.{with_item, runs_of, parts_of, after_runs}
 use Rattle.replay_turns.specs.Entries.{conn_or_none, conn_of}

@@ -16,7 +16,7 @@ use Rattle.line_pipeline.specs.Gathered.{batch_of}
 use Rattle.line_pipeline.specs.Settled.{told, all_told, answered_by}
 use Rattle.line_pipeline.proofs.Ids.{same_id-refl, same_id-is, same_id-other, once-head, once-tail}
 use Rattle.line_pipeline.proofs.TableLemmas.{conn_at-changed}
-use Rattle.batch_answers.specs.Database.{Database}
+use Rattle.table_rows.specs.Database.{Database}
 use Rattle.batch_answers.specs.Answers.{replies_to, after_all}
 use Rattle.batch_answers.specs.Batches.{parts_of, after_runs}
 use Rattle.replay_turns.specs.Entries.{conn_or_none, conn_of}

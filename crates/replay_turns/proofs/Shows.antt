@@ -14,7 +14,7 @@ use Rattle.table_rows.specs.Valid.{IsValidState}
 use Rattle.table_rows.specs.Walks.{walk_of, walked}
 use Rattle.table_rows.proofs.States.{table_in_schema}
 use Rattle.table_rows.proofs.PrimaryWalk.{primary_walk}
-use Rattle.batch_answers.specs.Database.{rows_in, database_of}
+use Rattle.table_rows.specs.Database.{rows_in, database_of}
 use Rattle.replay_turns.specs.Shown.{rows_lines, rows_shown}
 
 pub all_from : (columns : List ℕ) (entries : List Entry) → walked From columns [] entries ≡ entries

@@ -11,7 +11,7 @@ use Rattle.line_pipeline.specs.declared.conns.Conn.{Conn}
 use Rattle.line_pipeline.specs.Table.{Table, same_id, is_listed, are_once, conn_at, is_held, changed}
 use Rattle.line_pipeline.proofs.Ids.{same_id-refl, same_id-is, same_id-other, once-head, once-tail}
 use Rattle.line_pipeline.proofs.TableLemmas.{conn_at-changed}
-use Rattle.batch_answers.specs.Database.{Database}
+use Rattle.table_rows.specs.Database.{Database}
 use Rattle.batch_answers.specs.Answers.{after_all}
 use Rattle.batch_answers.specs.Batches.{after_runs}
 use Rattle.replay_turns.specs.declared.entries.Entry.{Entry}

@@ -6,7 +6,7 @@ use Rattle.line_pipeline.specs.declared.conns.Conn.{Conn}
 use Rattle.line_pipeline.specs.declared.conns.Conn.TheVariants as conns
 use Rattle.line_pipeline.specs.Live.{kinds_of, taken_lines}
 use Rattle.line_pipeline.specs.Conn.{took, answered}
-use Rattle.batch_answers.specs.Database.{Database}
+use Rattle.table_rows.specs.Database.{Database}
 use Rattle.batch_answers.specs.Answers.{replies_to, after_all}
 use Rattle.replay_turns.specs.Linked.{Linked, linked_at, on}
 

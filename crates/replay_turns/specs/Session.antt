@@ -2,7 +2,7 @@
 use Rattle.std.specs.Prelude.{ℕ, List}
 use Rattle.row_types.specs.declared.tables.Schema.{Schema}
 use Rattle.line_pipeline.specs.declared.secrets.Secrets.{Secrets}
-use Rattle.batch_answers.specs.Database.{Database}
+use Rattle.table_rows.specs.Database.{Database}
 use Rattle.replay_turns.specs.Linked.{Linked}
 use Rattle.replay_turns.specs.Receiving.{all_received}
 use Rattle.replay_turns.specs.Replying.{all_replied}

@@ -6,7 +6,7 @@ use Rattle.row_types.specs.declared.tables.TableDef.{TableDef}
 use Rattle.row_types.specs.declared.tables.Schema.{Schema}
 use Rattle.hs_token.specs.Spelling.{behind_tabs}
 use Rattle.find_scan.specs.Show.{cell_token}
-use Rattle.batch_answers.specs.Database.{Database}
+use Rattle.table_rows.specs.Database.{Database}
 
 -- The number of the first table with these two names, where the list begins with this number.
 abbrev pub table_from : ℕ → List TableDef → List ℕ → List ℕ → Option ℕ

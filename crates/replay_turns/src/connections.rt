@@ -1,7 +1,7 @@
 //! Connections and their links.
 ghost use Rattle.std.specs.Prelude.{◌≡◌, ◌<◌, [], ◌∷◌, ◌++◌, true, length, nat_eq, get_or, OnOk, IfOk};
 ghost use Rattle.row_types.specs.Valid.{IsValid, are_distinct};
-ghost use Rattle.batch_answers.specs.Database.{database_of};
+ghost use Rattle.table_rows.specs.Database.{database_of};
 ghost use Rattle.replay_turns.specs.Linked.{opened, on, linked_at};
 ghost use Rattle.replay_turns.specs.Receiving.{received, all_received};
 ghost use Rattle.replay_turns.specs.Replying.{all_replied};

@@ -2,7 +2,7 @@
 ghost use Rattle.std.specs.Prelude.{◌≡◌, ◌≤◌, ◌∷◌, ◌++◌, [], true, length, nat_eq, option_map, OnOk, IfOk};
 ghost use Rattle.row_types.specs.Valid.{IsValid, are_distinct};
 ghost use Rattle.table_rows.specs.Sizes.{most_bytes};
-ghost use Rattle.batch_answers.specs.Database.{empty_database};
+ghost use Rattle.table_rows.specs.Database.{empty_database};
 ghost use Rattle.replay_turns.specs.Linked.{Linked, opened, on, linked_at, has_ended, peer_sent, peer_ended, with_room, failing_next};
 ghost use Rattle.replay_turns.specs.Session.{turn};
 ghost use Rattle.replay_turns.specs.Shown.{table_at, rows_shown};
@@ -28,7 +28,7 @@ pub struct Session {
 
 impl Model for Session {
     ghost use Rattle.std.specs.Prelude.{◌≡◌};
-    ghost use Rattle.batch_answers.specs.Database.{database_of};
+    ghost use Rattle.table_rows.specs.Database.{database_of};
     ghost use Rattle.replay_turns.specs.Session.{Session};
 
     ghost Value = { Session };

@@ -9,7 +9,7 @@ ghost use Rattle.table_rows.specs.Rows.{indexes_of};
 ghost use Rattle.table_rows.specs.Indexes.{primary_of, parts_at};
 ghost use Rattle.table_rows.specs.Valid.{IsValidState};
 ghost use Rattle.find_scan.specs.Show.{cell_token};
-ghost use Rattle.batch_answers.specs.Database.{database_of};
+ghost use Rattle.table_rows.specs.Database.{database_of};
 ghost use Rattle.replay_turns.specs.Shown.{table_at, row_line, rows_lines, rows_shown};
 
 #[cfg(test)]

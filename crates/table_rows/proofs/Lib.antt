@@ -31,5 +31,7 @@ pub mod Wider
 pub mod Sized
 pub mod Verdicts
 pub mod Roomier
+pub mod Alone
+pub mod GoingBack
 pub mod PrimaryWalk
 pub mod Plays

@@ -17,4 +17,6 @@ pub mod Table
 pub mod Inside
 pub mod Valid
 pub mod Undoing
+pub mod Database
+pub mod GoingBack
 pub mod Examples

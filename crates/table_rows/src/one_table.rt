@@ -9,9 +9,9 @@ ghost use Rattle.table_rows.specs.Table.{Table, empty_table, with_room, with_row
 ghost use Rattle.table_rows.specs.Walks.{begun, gone_on, walked};
 
 use crate::bound::Bound;
-use crate::walk::Walk;
 use crate::edge::Edge;
 use crate::store::RowStore;
+use crate::walk::Walk;
 use row_types::{IndexDef, IndexKind, Row, RowKey, TableDef, Value};
 use std::alloc::{AllocError, Global};
 use std::marker::Model;

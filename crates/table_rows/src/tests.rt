@@ -7,9 +7,9 @@ mod plays;
 mod table;
 
 use super::*;
+use crate::edge::Edge;
 use lists::{Lists, all_agree, next_seed, turn};
 use plays::try_put;
-use crate::edge::Edge;
 use row_types::{Fit, Kind, List, Row, Value, cmp_keys, fits};
 use std::alloc::{AllocError, Global};
 use std::cmp::Ordering;

@@ -1,5 +1,5 @@
 //! The changes that may have to be taken back.
-ghost use Rattle.std.specs.Prelude.{◌≡◌, ◌+◌, ◌<◌, ◌≤◌, [], ◌∷◌, ◌++◌, length, take, drop, slice_get, Option, Some, OnOk, OnErr};
+ghost use Rattle.std.specs.Prelude.{◌≡◌, ◌+◌, ◌<◌, ◌≤◌, [], ◌∷◌, ◌++◌, length, take, drop, slice_get, Option, Some, IsOk, OnOk, OnErr};
 
 use crate::undo::Undo;
 use std::alloc::{AllocError, Global};
@@ -44,7 +44,7 @@ impl UndoList {
     /// Lets all changes go. Takes no memory.
     pub fn clear(&mut self)
         ensures entries { self.new.entries ≡ [] }
-        ensures spare { self.old.spare ≤ self.new.spare }
+        ensures spare { self.new.spare ≡ self.old.spare + length self.old.entries }
     {
         self.entries.clear();
     }
@@ -58,11 +58,16 @@ impl UndoList {
     }
 
     /// Makes room for `n` changes.
-    pub(crate) fn reserve(&mut self, n: u32) -> Result<(), AllocError>
+    pub fn reserve(&mut self, n: u32) -> Result<(), AllocError>
         ensures entries { self.new.entries ≡ self.old.entries }
         ensures room { OnOk result (n ≤ self.new.spare) }
         ensures keeps_room { self.old.spare ≤ self.new.spare }
+        ensures at_hand { n ≤ self.old.spare → IsOk result × (self.new ≡ self.old) }
+        ensures refused { OnErr result (self.new ≡ self.old) }
     {
+        if n as usize <= self.entries.capacity() - self.entries.len() {
+            return Ok(());
+        }
         self.entries.reserve(n as usize)
     }
 

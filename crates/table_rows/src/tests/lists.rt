@@ -6,8 +6,8 @@ ghost use Rattle.table_rows.specs.Examples.{some_columns, some_schema, IsPlay};
 
 use super::plays::{delete, nth, take_back, try_put, try_replace};
 use super::table::{code, row};
-use crate::{Bound, SlotRef, Tables, Undo, UndoList, Verdict, Walk};
 use crate::edge::Edge;
+use crate::{Bound, SlotRef, Tables, Undo, UndoList, Verdict, Walk};
 use row_types::{Row, cmp_keys, copy_row};
 use std::alloc::{AllocError, Global};
 use std::cmp::Ordering;

@@ -4,8 +4,8 @@ ghost use Rattle.table_rows.specs.Slots.{is_live_in};
 ghost use Rattle.table_rows.specs.Checks.{IsRow};
 ghost use Rattle.table_rows.specs.Examples.{some_columns, some_schema, IsPlay};
 
-use crate::{SlotRef, Tables, UndoList, Verdict};
 use crate::edge::Edge;
+use crate::{SlotRef, Tables, UndoList, Verdict};
 use row_types::Row;
 use std::alloc::AllocError;
 

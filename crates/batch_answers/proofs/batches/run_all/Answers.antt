@@ -3,10 +3,10 @@ use Rattle.std.specs.List.{AllByRecursion}
 use Rattle.std.proofs.lemmas.List.{drop_more}
 use Rattle.request_types.specs.declared.batches.Item.{Item}
 use Rattle.request_types.specs.declared.batches.Part.{Part}
-use Rattle.batch_answers.specs.Database.{database_of}
+use Rattle.table_rows.specs.Database.{database_of}
 use Rattle.batch_answers.specs.Batches.{ItemFits, runs_of, parts_of, after_runs}
 use Rattle.batch_answers.specs.Steps.{first_behind}
-use Rattle.batch_answers.proofs.Going.{back_none, back_then}
+use Rattle.table_rows.proofs.GoingBack.{goes_schema, goes_none, goes_then}
 use Rattle.batch_answers.proofs.Runs.{behind_none, ends_step, goes_step, rows_step}
 use Rattle.batch_answers.proofs.batches.run_all.Goals as goal
 use Rattle.batch_answers.proofs.batches.run_all.Goals.{then-ends_run+in_ok-push, else-ends_run}
@@ -19,16 +19,16 @@ loop-place-init c =
       rows = refl;
       schema = c.requires.schema;
       fits = c.requires.items;
-      back = back_none c.args.tables.now c.args.undo.now.entries;
+      back = goes_none c.args.tables.now c.args.undo.now.entries;
     }
 
 pub returns-in_err-answer-clause-back : goal.returns-in_err-answer-clause-back
 returns-in_err-answer-clause-back c =
-    back_then c.args.tables.now c.loop-place.tables c.answer.new.tables c.args.undo.now.entries c.loop-place.undo.entries c.answer.new.undo.entries c.loop-place.invariant.back c.answer.ensures.back
+    goes_then c.args.tables.now c.loop-place.tables c.answer.new.tables c.args.undo.now.entries c.loop-place.undo.entries c.answer.new.undo.entries c.loop-place.invariant.back c.answer.ensures.back
 
 pub returns-in_err-push-clause-back : goal.returns-in_err-push-clause-back
 returns-in_err-push-clause-back c =
-    back_then c.args.tables.now c.loop-place.tables c.answer.new.tables c.args.undo.now.entries c.loop-place.undo.entries c.answer.new.undo.entries c.loop-place.invariant.back c.answer.ensures.back
+    goes_then c.args.tables.now c.loop-place.tables c.answer.new.tables c.args.undo.now.entries c.loop-place.undo.entries c.answer.new.undo.entries c.loop-place.invariant.back c.answer.ensures.back
 
 pub loop-place-preserved : goal.loop-place-preserved
 loop-place-preserved c =
@@ -40,9 +40,9 @@ loop-place-preserved c =
     let cut : items ≡ item ∷ rest = drop_more c.args.items.now c.loop-place.place item c.loop-place-test.true ∙ ap (λ (x : Item). x ∷ rest) (sym c.index-items-place.is) in
     let whole = parts_of (database_of c.args.tables.now) (runs_of c.args.items.now) in
     let rows = rows_step before after (after_runs (database_of c.args.tables.now) (runs_of c.args.items.now)) item items rest cut c.in_ok-answer.ensures.rows c.loop-place.invariant.rows in
-    let schema = c.loop-place.invariant.schema ∙ sym c.in_ok-answer.ensures.back.schema in
+    let schema = c.loop-place.invariant.schema ∙ sym (goes_schema c.loop-place.tables c.answer.new.tables c.loop-place.undo.entries c.answer.new.undo.entries c.in_ok-answer.ensures.back) in
     let fits = (subst (AllByRecursion (ItemFits c.args.schema.now)) cut c.loop-place.invariant.fits).1 in
-    let back = back_then c.args.tables.now c.loop-place.tables c.answer.new.tables c.args.undo.now.entries c.loop-place.undo.entries c.answer.new.undo.entries c.loop-place.invariant.back c.answer.ensures.back in
+    let back = goes_then c.args.tables.now c.loop-place.tables c.answer.new.tables c.args.undo.now.entries c.loop-place.undo.entries c.answer.new.undo.entries c.loop-place.invariant.back c.answer.ensures.back in
     elim c.if-ends_run.branch [
       | then-ends_run+in_ok-push w ↦ record {
         parts =

@@ -1,8 +1,9 @@
 use Rattle.std.proofs.Common.{◌≡◌, ◌++◌, drop}
 use Rattle.std.specs.List.{AllByRecursion}
-use Rattle.batch_answers.specs.Database.{database_of}
+use Rattle.table_rows.specs.Database.{database_of}
 use Rattle.batch_answers.specs.Batches.{ItemFits, runs_of, parts_of, after_runs}
-use Rattle.batch_answers.specs.Steps.{CanGoBack, first_behind}
+use Rattle.table_rows.specs.GoingBack.{CanGoBack}
+use Rattle.batch_answers.specs.Steps.{first_behind}
 use Rattle.batch_answers.proofs.batches.run_all.Given as goal
 
 abbrev pub invariant-loop-place : goal.invariant-loop-place

@@ -1,6 +1,6 @@
 use Rattle.std.proofs.Common.{ℕ, ap, ◌∙◌}
 use Rattle.table_rows.specs.Undoing.{since, undone_all}
-use Rattle.batch_answers.proofs.Going.{taken_back}
+use Rattle.table_rows.proofs.GoingBack.{taken_back}
 use Rattle.batch_answers.proofs.batches.run_batch.Goals as goal
 
 pub returns-in-Err-clause-err : goal.returns-in-Err-clause-err

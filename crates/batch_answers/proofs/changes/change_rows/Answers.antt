@@ -32,4 +32,4 @@ pub returns-clause-back : goal.returns-clause-back
 returns-clause-back c =
     let made = changed_all c.args.find.now.table c.as_slice-columns.result.now c.args.change.now c.args.slots.now c.args.tables.now in
     back_modified c.args.find.now.table made c.args.tables.now c.modify.new.tables c.args.undo.now.entries c.modify.new.undo.entries
-    c.modify.ensures.schema c.modify.result c.modify.ensures.done c.modify.ensures.unchanged
+    c.modify.result c.modify.ensures.done c.modify.ensures.unchanged

@@ -8,16 +8,16 @@ use Rattle.find_scan.specs.Rendering.{rows_at, shown}
 use Rattle.find_scan.specs.declared.replies.Rendered.{Rendered}
 use Rattle.find_modify.specs.declared.modifies.Modified.{Modified}
 use Rattle.find_modify.specs.declared.modifies.Modified.TheVariants.{Done, Refused}
-use Rattle.batch_answers.specs.Database.{database_of}
+use Rattle.table_rows.specs.Database.{database_of}
 use Rattle.batch_answers.specs.Replies.{code_reply}
 use Rattle.batch_answers.specs.Steps.{reply_of}
 use Rattle.batch_answers.proofs.Asked.{reply_is, shown_answer, big_answer}
 use Rattle.batch_answers.proofs.Fits.{find_within, find_numbers}
-use Rattle.batch_answers.proofs.Going.{back_none}
+use Rattle.table_rows.proofs.GoingBack.{goes_none}
 use Rattle.batch_answers.proofs.changes.show_and_change.Goals as goal
 
 pub returns-in_err-slots-clause-back : goal.returns-in_err-slots-clause-back
-returns-in_err-slots-clause-back c = back_none c.args.tables.now c.args.undo.now.entries
+returns-in_err-slots-clause-back c = goes_none c.args.tables.now c.args.undo.now.entries
 
 pub render-requires-clause-table : goal.render-requires-clause-table
 render-requires-clause-table c = find_within c.args.tables.now c.schema.ensures.valid c.args.find.now c.requires.find
@@ -27,10 +27,10 @@ render-requires-clause-columns c =
     subst (AreNumbers (columns_of c.args.tables.now c.args.find.now.table)) (sym c.as_slice-columns.ensures) (find_numbers c.args.tables.now c.schema.ensures.valid c.args.find.now c.requires.find)
 
 pub returns-in_err-render-clause-back : goal.returns-in_err-render-clause-back
-returns-in_err-render-clause-back c = back_none c.args.tables.now c.args.undo.now.entries
+returns-in_err-render-clause-back c = goes_none c.args.tables.now c.args.undo.now.entries
 
 pub returns-in-TooBig-clause-back : goal.returns-in-TooBig-clause-back
-returns-in-TooBig-clause-back c = back_none c.args.tables.now c.args.undo.now.entries
+returns-in-TooBig-clause-back c = goes_none c.args.tables.now c.args.undo.now.entries
 
 pub returns-in-TooBig-clause-reply : goal.returns-in-TooBig-clause-reply
 returns-in-TooBig-clause-reply c =

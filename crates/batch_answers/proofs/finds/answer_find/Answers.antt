@@ -5,7 +5,7 @@ use Rattle.table_rows.specs.Rows.{columns_of}
 use Rattle.find_scan.specs.Show.{find_reply}
 use Rattle.find_scan.specs.Rendering.{rows_at, shown}
 use Rattle.find_scan.specs.declared.replies.Rendered.{Rendered}
-use Rattle.batch_answers.specs.Database.{database_of}
+use Rattle.table_rows.specs.Database.{database_of}
 use Rattle.batch_answers.specs.Replies.{code_reply}
 use Rattle.batch_answers.specs.Answers.{rows_reply}
 use Rattle.batch_answers.proofs.Asked.{fits_then, big_then, reply_is}

@@ -12,19 +12,19 @@ pub returns-in_err-insert-clause-back : goal.returns-in_err-insert-clause-back
 returns-in_err-insert-clause-back c =
     let row = new_row (columns_of c.args.tables.now c.args.spec.now.table) c.args.spec.now in
     back_inserted c.args.spec.now.table row c.args.tables.now c.insert.new.tables c.args.undo.now.entries c.insert.new.undo.entries
-    c.insert.ensures.schema c.insert.result c.insert.ensures.put c.insert.ensures.unchanged
+    c.insert.result c.insert.ensures.put c.insert.ensures.unchanged
 
 pub returns-in-Done-clause-back : goal.returns-in-Done-clause-back
 returns-in-Done-clause-back c =
     let row = new_row (columns_of c.args.tables.now c.args.spec.now.table) c.args.spec.now in
     back_inserted c.args.spec.now.table row c.args.tables.now c.insert.new.tables c.args.undo.now.entries c.insert.new.undo.entries
-    c.insert.ensures.schema c.insert.result c.insert.ensures.put c.insert.ensures.unchanged
+    c.insert.result c.insert.ensures.put c.insert.ensures.unchanged
 
 pub returns-in-Refused-clause-back : goal.returns-in-Refused-clause-back
 returns-in-Refused-clause-back c =
     let row = new_row (columns_of c.args.tables.now c.args.spec.now.table) c.args.spec.now in
     back_inserted c.args.spec.now.table row c.args.tables.now c.insert.new.tables c.args.undo.now.entries c.insert.new.undo.entries
-    c.insert.ensures.schema c.insert.result c.insert.ensures.put c.insert.ensures.unchanged
+    c.insert.result c.insert.ensures.put c.insert.ensures.unchanged
 
 pub returns-in-Done-clause-reply : goal.returns-in-Done-clause-reply
 returns-in-Done-clause-reply c =

@@ -6,7 +6,7 @@ use Rattle.request_types.specs.declared.batches.Item.{Item}
 use Rattle.request_types.specs.declared.batches.ItemKind.{ItemKind}
 use Rattle.line_pipeline.specs.Table.{Table, are_once, is_held}
 use Rattle.line_pipeline.specs.Gathered.{batch_of}
-use Rattle.batch_answers.specs.Database.{Database, database_of}
+use Rattle.table_rows.specs.Database.{Database, database_of}
 use Rattle.batch_answers.specs.Batches.{ItemFits, runs_of, after_runs}
 use Rattle.replay_turns.specs.declared.entries.Entry.{Entry}
 use Rattle.replay_turns.specs.Replying.{all_replied}

@@ -1,6 +1,6 @@
 use Rattle.std.proofs.Common.{◌≡◌, ◌∙◌, [], ap}
 use Rattle.row_types.specs.declared.tables.Schema.{Schema}
-use Rattle.batch_answers.specs.Database.{Database, database_of}
+use Rattle.table_rows.specs.Database.{Database, database_of}
 use Rattle.replay_turns.specs.Connected.{Connected}
 use Rattle.replay_turns.specs.Session.{Session}
 use Rattle.replay_turns.proofs.Empty.{empty_is}

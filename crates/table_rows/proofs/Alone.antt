@@ -13,7 +13,7 @@ use Rattle.table_rows.specs.Entries.{Entry}
 use Rattle.table_rows.specs.Rows.{Rows, State}
 use Rattle.table_rows.specs.Sizes.{entries_size}
 use Rattle.table_rows.specs.Widths.{AreRoomier, IsRoomier}
-use Rattle.batch_answers.specs.Database.{Database, rows_alone, rows_in, database_of, placed_from, placed, placed_in}
+use Rattle.table_rows.specs.Database.{Database, rows_alone, rows_in, database_of, placed_from, placed, placed_in}
 
 size_alone : (entries : List Entry) → entries_size entries ≡ sum_by row_size (rows_alone entries)
 size_alone [] = refl
