@@ -1,24 +1,13 @@
 -- A batch by its connections, and the part that each is answered.
-use Rattle.std.specs.Prelude.{⊤, List, [], ◌∷◌, if◌then◌else◌}
-use Rattle.row_types.specs.declared.tables.Schema.{Schema}
+use Rattle.std.specs.Prelude.{List, [], ◌∷◌, if◌then◌else◌}
 use Rattle.request_types.specs.declared.connections.ConnId.{ConnId}
-use Rattle.request_types.specs.Fits.{RequestFits}
+pub use Rattle.request_types.specs.Fits.{KindFits, ItemFits}
 use Rattle.request_types.specs.declared.batches.Item.{Item}
 use Rattle.request_types.specs.declared.batches.ItemKind.{ItemKind}
-use Rattle.request_types.specs.declared.batches.ItemKind.TheVariants as kinds
 use Rattle.request_types.specs.declared.batches.Part.{Part}
 use Rattle.line_pipeline.specs.Table.{same_id}
 use Rattle.table_rows.specs.Database.{Database}
 use Rattle.batch_answers.specs.Answers.{replies_to, after_all}
-
--- What is asked of the tables fits their schema.
-abbrev pub KindFits : Schema → ItemKind → Type 0
-KindFits schema (kinds.Ready code) = ⊤
-KindFits schema (kinds.Hs request) = RequestFits schema request
-
--- The same of an item.
-abbrev pub ItemFits : Schema → Item → Type 0
-ItemFits schema item = KindFits schema item.kind
 
 -- An item stands with those behind it where they are of its connection.
 abbrev pub with_item : Item → List (ConnId × List ItemKind) → List (ConnId × List ItemKind)

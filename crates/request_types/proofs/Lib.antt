@@ -1,1 +1,2 @@
+pub mod CodeFacts
 pub mod FitFacts

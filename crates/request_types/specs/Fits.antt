@@ -1,7 +1,7 @@
--- Which finds and changes fit a schema: numbers in range, and values of their columns' kinds.
+-- Which requests fit a schema: numbers in range, and values of their columns' kinds.
 use Rattle.std.specs.Prelude.{◌≡◌, ℕ, ◌≤◌, ◌<◌, List, [], ◌∷◌, length, slice_get, IsSomeAnd, IfSome, FitsSigned, ⊤, nat_eq, true}
 use Rattle.std.specs.Int.{w64}
-use Rattle.std.specs.List.{All}
+use Rattle.std.specs.List.{All, AllByRecursion}
 use Rattle.row_types.specs.declared.values.Value.{Value}
 use Rattle.row_types.specs.declared.values.Value.TheVariants.{Null, Int, Text}
 use Rattle.row_types.specs.declared.columns.Kind.{Kind}
@@ -19,6 +19,10 @@ use Rattle.request_types.specs.declared.mods.ModSpec.{ModSpec}
 use Rattle.request_types.specs.declared.inserts.InsertSpec.{InsertSpec}
 use Rattle.request_types.specs.declared.requests.Request.{Request}
 use Rattle.request_types.specs.declared.requests.Request.TheVariants.{Find, Modify, Insert}
+use Rattle.request_types.specs.declared.batches.ItemKind.{ItemKind}
+use Rattle.request_types.specs.declared.batches.ItemKind.TheVariants.{Ready, Hs}
+use Rattle.request_types.specs.declared.batches.Item.{Item}
+use Rattle.request_types.specs.declared.batches.Batch.{Batch}
 
 -- A value of a kind is NULL, an integer of 64 bits, or a text, which may be longer than its column.
 abbrev pub IsOfKind : Kind → Value → Type 0
@@ -111,3 +115,16 @@ RequestFits schema (Find find) = FindFits schema find
 RequestFits schema (Modify find change) =
     FindFits schema find × ModFits schema find.table find.columns change
 RequestFits schema (Insert insert) = InsertFits schema insert
+
+-- What a line asks of the tables fits their schema.
+abbrev pub KindFits : Schema → ItemKind → Type 0
+KindFits schema (Ready code) = ⊤
+KindFits schema (Hs request) = RequestFits schema request
+
+-- The same of an item.
+abbrev pub ItemFits : Schema → Item → Type 0
+ItemFits schema item = KindFits schema item.kind
+
+-- The same of each item of a batch.
+abbrev pub BatchFits : Schema → Batch → Type 0
+BatchFits schema batch = AllByRecursion (ItemFits schema) batch.items

@@ -1,3 +1,4 @@
 pub mod Code
 pub mod Refusal
 pub mod Fits
+pub mod Names

@@ -4,11 +4,11 @@ use Rattle.request_types.specs.declared.codes.Code.{Code}
 use Rattle.request_types.specs.declared.faults.Fault.{Fault}
 use Rattle.request_types.specs.declared.faults.Fault.TheVariants.{Refused, NoMemory}
 
--- The next part, unless the line was refused before.
+-- The next part, unless an earlier one was refused, for whatever reason.
 infixl 10 ◌>>=◌
-abbrev pub ◌>>=◌ : {A B : Type 0} → Result A Code → (A → Result B Code) → Result B Code
+abbrev pub ◌>>=◌ : {A B E : Type 0} → Result A E → (A → Result B E) → Result B E
 (Ok x) >>= f = f x
-(Err code) >>= f = Err code
+(Err why) >>= f = Err why
 
 -- What is there; the line is refused where there is nothing.
 abbrev pub or_refuse : {A : Type 0} → Code → Option A → Result A Code

@@ -1,6 +1,8 @@
 //! Why a line is refused, or what it asks for.
 ghost use Rattle.std.specs.Prelude.{◌≡◌};
-ghost use Rattle.request_types.specs.Code.{number};
+ghost use Rattle.request_types.specs.Code.{number, text};
+
+use crate::texts::text_of;
 
 /// The refusals, in the order of their numbers. A request line meets those up to `Value`, `Ids` and `AuthKey`; what it
 /// asks for meets `Value` and those up to `Big`. A statement meets `Syntax` and those behind it.
@@ -55,7 +57,7 @@ pub enum Code {
     /// A statement names a table or a column that isn't there, or a column twice.
     Name = 31,
     /// A value of one kind where a statement needs one of another.
-    Type = 32,
+    WrongKind = 32,
 }
 
 impl Code {
@@ -64,5 +66,12 @@ impl Code {
         ensures { result ≡ number self }
     {
         self as u32
+    }
+
+    /// The text that stands beside the number.
+    pub fn text(self) -> &'static str
+        ensures { result.now ≡ text self }
+    {
+        text_of(self.number())
     }
 }

@@ -11,7 +11,7 @@
 //! | `Item`, `Batch`, `Part`, `Replies` | what the lines of one turn ask for, and what is replied to each connection |
 //!
 //! A `column` is a place in the table's list of columns and a `part` a place in the index's parts, each from 0, whatever
-//! columns the request's line was opened on. Reading lines is the work of `open_index`, selecting rows that of
+//! columns the request's line was opened on. `table_named`, `index_named` and `column_named` look such places up. Reading lines is the work of `open_index`, selecting rows that of
 //! `find_scan`, gathering a batch that of `line_pipeline`, and answering it that of `batch_answers`.
 #![tactic(auto)]
 
@@ -22,7 +22,9 @@ mod faults;
 mod filters;
 mod finds;
 mod inserts;
+mod laws;
 mod mods;
+mod names;
 mod ports;
 mod requests;
 #[cfg(test)]
@@ -36,7 +38,9 @@ pub use faults::Fault;
 pub use filters::{FilterOp, FilterSpec};
 pub use finds::{FindOp, FindSpec, InSpec};
 pub use inserts::InsertSpec;
+pub use laws::codes_are_distinct;
 pub use mods::{ModKind, ModSpec};
+pub use names::{column_named, index_named, table_named};
 pub use ports::Port;
 pub use requests::Request;
 pub use texts::text_of;
