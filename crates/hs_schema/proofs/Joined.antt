@@ -3,21 +3,12 @@ use Rattle.std.proofs.Common.{◌≡◌, ◌∙◌, ℕ, ◌-◌, ◌≤◌, Lis
 use Rattle.std.specs.Prelude.{Result, OnOk, flat_map, slice_get}
 use Rattle.std.proofs.lemmas.List.{take_all}
 use mathlib.Core.List.{append_assoc, append-nil}
-use Rattle.hs_token.specs.declared.tokens.Token.{Token}
-use Rattle.hs_token.specs.Spelling.{token_spelled, line_spelled}
 use Rattle.row_types.specs.declared.columns.Column.{Column}
 use Rattle.hs_schema.specs.Spelling.{name_in, names_text}
 
--- a token behind its tab, and a name behind its comma
-abbrev pub behind_tab : Token → List ℕ
-behind_tab t = 9 ∷ token_spelled t
-
+-- a name behind its comma
 abbrev pub behind_comma : List Column → ℕ → List ℕ
 behind_comma columns p = 44 ∷ name_in (slice_get columns p)
-
-pub line_whole : (t : Token) (ts : List Token) → line_spelled (t ∷ ts) ≡ token_spelled t ++ flat_map behind_tab ts
-line_whole t [] = sym (append-nil (token_spelled t))
-line_whole t (u ∷ ts) = ap (λ more. token_spelled t ++ 9 ∷ more) (line_whole u ts)
 
 pub names_whole : (columns : List Column) (p : ℕ) (ps : List ℕ) → names_text columns (p ∷ ps) ≡ name_in (slice_get columns p) ++ flat_map (behind_comma columns) ps
 names_whole columns p [] = sym (append-nil (name_in (slice_get columns p)))
@@ -29,10 +20,6 @@ rest_is x xs =
     let one : length (x ∷ xs) - 1 ≡ length xs = omega arith in
     rw one (take_all (length xs) xs (omega arith))
 
-line_parts : (ts : List Token) (t : Token) → 1 ≤ length ts → t ≡ get_or ts 0 t → line_spelled ts ≡ token_spelled t ++ flat_map behind_tab (take (length ts - 1) (drop 1 ts))
-line_parts [] t some is = absurd (omega arith)
-line_parts (u ∷ us) t some is = rw (is, rest_is u us) (line_whole u us)
-
 names_parts : (columns : List Column) (ps : List ℕ) → 1 ≤ length ps → names_text columns ps ≡ name_in (slice_get columns (get_or ps 0 0)) ++ flat_map (behind_comma columns) (take (length ps - 1) (drop 1 ps))
 names_parts columns [] some = absurd (omega arith)
 names_parts columns (q ∷ qs) some = rw (rest_is q qs) (names_whole columns q qs)
@@ -40,10 +27,6 @@ names_parts columns (q ∷ qs) some = rw (rest_is q qs) (names_whole columns q q
 on_ok : {A E : Type 0} (r : Result A E) (P Q : Type 0) → (P → Q) → OnOk r P → OnOk r Q
 on_ok (Ok x) P Q f p = f p
 on_ok (Err e) P Q f p = tt
-
-pub line_written : {A E : Type 0} (r : Result A E) (ts : List Token) (t : Token) (old mid new : List ℕ) → 1 ≤ length ts → t ≡ get_or ts 0 t → mid ≡ old ++ token_spelled t → OnOk r (new ≡ mid ++ flat_map behind_tab (take (length ts - 1) (drop 1 ts))) → OnOk r (new ≡ old ++ line_spelled ts)
-line_written r ts t old mid new some is first = on_ok r _ _ (λ rest.
-    rest ∙ (rw first (append_assoc old (token_spelled t) (flat_map behind_tab (take (length ts - 1) (drop 1 ts))) ∙ ap (λ bytes. old ++ bytes) (sym (line_parts ts t some is)))))
 
 pub names_written : {A E : Type 0} (r : Result A E) (columns : List Column) (ps : List ℕ) (old mid new : List ℕ) → 1 ≤ length ps → mid ≡ old ++ name_in (slice_get columns (get_or ps 0 0)) → OnOk r (new ≡ mid ++ flat_map (behind_comma columns) (take (length ps - 1) (drop 1 ps))) → OnOk r (new ≡ old ++ names_text columns ps)
 names_written r columns ps old mid new some first = on_ok r _ _ (λ rest.

@@ -1,11 +1,10 @@
 //! The text of a schema.
 ghost use Rattle.std.specs.Prelude.{◌≡◌, [], ◌∷◌, ◌++◌, flat_map, slice_get, decimal, OnOk, OnErr, IfOk};
 ghost use Rattle.std.specs.Fmt.{signed_decimal};
-ghost use Rattle.hs_token.specs.Spelling.{token_spelled, line_spelled};
 ghost use Rattle.hs_schema.specs.Spelling.{kind_text, nullness_text, index_kind_text, name_in, preset_token, column_tokens, names_text, index_tokens, table_tokens, table_line};
 
 use bytes::Bytes;
-use hs_token::{Token, push_token};
+use hs_token::{LINE_FEED, Token, push_line};
 use itoa::Buffer;
 use row_types::{Column, IndexDef, IndexKind, Kind, TableDef, Value};
 use std::alloc::{AllocError, Global};
@@ -20,30 +19,7 @@ pub(crate) fn push_table(
 {
     let tokens = table_tokens(alloc, table)?;
     push_line(out, &tokens)?;
-    Ok(out.push(b'\n')?)
-}
-
-fn push_line(out: &mut Vec<u8>, tokens: &[Token]) -> Result<(), AllocError>
-    ensures { OnOk result (out.new.items ≡ out.old.items ++ line_spelled tokens.now) }
-{
-    match tokens {
-        [] => Ok(()),
-        [first, rest @ ..] => {
-            push_token(out, first)?;
-            push_behind_tabs(out, rest)
-        }
-    }
-}
-
-fn push_behind_tabs(out: &mut Vec<u8>, tokens: &[Token]) -> Result<(), AllocError>
-    ensures { OnOk result (out.new.items ≡ out.old.items
-        ++ flat_map (λ token. 9 ∷ token_spelled token) tokens.now) }
-{
-    for token in tokens {
-        out.push(b'\t')?;
-        push_token(out, token)?;
-    }
-    Ok(())
+    Ok(out.push(LINE_FEED)?)
 }
 
 fn table_tokens(alloc: Global, table: &TableDef) -> Result<Vec<Token>, AllocError>

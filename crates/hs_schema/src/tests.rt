@@ -2,7 +2,6 @@
 ghost use Rattle.row_types.specs.Valid.{IsValid};
 
 use super::*;
-use bytes::Bytes;
 use hs_token::{Token, decode_line};
 use row_types::Schema;
 use std::alloc::Global;
@@ -138,7 +137,7 @@ fn tokens_of(alloc: Global, text: &[u8]) -> Result<Vec<Token>, Fail> {
             *byte = b'\t';
         }
     }
-    Ok(decode_line(alloc, &Bytes::from_vec(line)?)?)
+    Ok(decode_line(alloc, &line)?)
 }
 
 /// What adding the table of a line answers: nothing, or the rule, the table's number and the token's.
@@ -258,7 +257,7 @@ fn again(alloc: Global, text: &[u8]) -> Result<Vec<u8>, Fail> {
     let mut schema = empty(alloc);
     for line in text.split(|byte| *byte == b'\n') {
         if !line.is_empty() {
-            let tokens = decode_line(alloc, &Bytes::copy_from_slice(alloc, line)?)?;
+            let tokens = decode_line(alloc, line)?;
             schema.add_table(alloc, &tokens)?;
         }
     }

@@ -9,7 +9,7 @@ use Rattle.std.specs.Fmt.{signed_decimal}
 use Rattle.std.specs.Char.{digit_value, is_ascii_digit}
 use Rattle.std.specs.Str.{all_ascii_digits}
 use Rattle.std.specs.Str.Parse.{digits_value, digits_value_after}
-use Rattle.hs_token.specs.Number.{is_number, number_below, u32_of, i64_of}
+use Rattle.hs_token.specs.Number.{is_number, number_below, u32_of, u64_of, i64_of}
 
 -- the value only grows
 pub after_ge : (n : ℕ) (ds : List ℕ) → n ≤ digits_value_after 10 n ds
@@ -52,6 +52,9 @@ plain_i64 (b ∷ bs) some e =
 
 pub printed_u32 : (n : ℕ) → n < 2 ^ 32 → u32_of (decimal n) ≡ Some n
 printed_u32 n lt = decimal_below (2 ^ 32) n (omega arith) lt
+
+pub printed_u64 : (n : ℕ) → n < 2 ^ 64 → u64_of (decimal n) ≡ Some n
+printed_u64 n lt = decimal_below (2 ^ 64) n lt lt
 
 pub printed_i64 : (z : ℤ) → FitsSigned w64 z → i64_of (signed_decimal z) ≡ Some z
 printed_i64 (pos n) fits =

@@ -1,6 +1,7 @@
 -- A reply, token behind token.
-use Rattle.std.proofs.Common.{◌≡◌, ℕ, suc, ℤ, pos, negsuc, ◌<◌, ◌≤◌, ◌^◌, true, leb, List, [], ◌∷◌, ◌++◌, refl, sym, ap, ◌∙◌, arith, append-nil, append_assoc, decimal, Result, Ok, Err, OnErr, FitsSigned}
+use Rattle.std.proofs.Common.{◌≡◌, ℕ, suc, ℤ, pos, negsuc, ◌<◌, ◌≤◌, ◌^◌, true, leb, List, [], ◌∷◌, ◌++◌, refl, sym, ap, ◌∙◌, arith, append-nil, append_assoc, decimal, Result, Ok, Err, OnOk, OnErr, FitsSigned, ◌-◌, length, take, drop, get_or}
 use Rattle.std.proofs.lemmas.Bool.{leb-true, and_parts}
+use Rattle.std.proofs.lemmas.List.{take_all}
 use Rattle.std.proofs.lemmas.Fmt.{digits_decimal}
 use Rattle.std.specs.List.{AllByRecursion}
 use Rattle.std.specs.Char.{is_ascii_digit}
@@ -18,6 +19,23 @@ pub line_is : (t : Token) (ts : List Token) → line_spelled (t ∷ ts) ≡ toke
 line_is t [] = sym (append-nil (token_spelled t))
 line_is t (u ∷ us) = ap (λ (l : List ℕ). token_spelled t ++ 9 ∷ l) (line_is u us)
 
+-- a line of at least one token, in its first token and the others
+line_parts : (ts : List Token) (t : Token) → 1 ≤ length ts → t ≡ get_or ts 0 t → token_spelled t ++ behind_tabs (take (length ts - 1) (drop 1 ts)) ≡ line_spelled ts
+line_parts [] t some is = absurd (omega arith)
+line_parts (u ∷ us) t some is =
+    let first : t ≡ u = is in
+    let others : take (length (u ∷ us) - 1) us ≡ us = take_all (length (u ∷ us) - 1) us (omega arith) in
+    rw (first, others) (sym (line_is u us))
+
+on_ok : {A B : Type 0} (r : Result A B) (P Q : Type 0) → (P → Q) → OnOk r P → OnOk r Q
+on_ok (Ok x) P Q f p = f p
+on_ok (Err e) P Q f p = tt
+
+pub line_written : {A B : Type 0} (r : Result A B) (ts : List Token) (t : Token) (old mid new : List ℕ) → 1 ≤ length ts → t ≡ get_or ts 0 t → mid ≡ old ++ token_spelled t
+    → OnOk r (new ≡ mid ++ behind_tabs (take (length ts - 1) (drop 1 ts))) → OnOk r (new ≡ old ++ line_spelled ts)
+line_written r ts t old mid new some is first = on_ok r _ _ (λ rest.
+    rest ∙ (rw first (append_assoc old (token_spelled t) (behind_tabs (take (length ts - 1) (drop 1 ts))) ∙ ap (λ (l : List ℕ). old ++ l) (line_parts ts t some is))))
+
 digits_plain : (text : List ℕ) → all_ascii_digits text ≡ true → AllByRecursion (λ b. 16 ≤ b) text
 digits_plain [] e = tt
 digits_plain (b ∷ bs) e =
@@ -25,7 +43,7 @@ digits_plain (b ∷ bs) e =
     let low : 48 ≤ b = leb-true 48 b (and_parts (leb 48 b) (leb b 57) both.0).0 in
     (omega arith, digits_plain bs both.1)
 
-spelled_decimal : (n : ℕ) → n < 2 ^ 64 → text_spelled (decimal n) ≡ decimal n
+pub spelled_decimal : (n : ℕ) → n < 2 ^ 64 → text_spelled (decimal n) ≡ decimal n
 spelled_decimal n lt =
     ap text_spelled (sym (append-nil (decimal n))) ∙ (spelled-plain (decimal n) [] (digits_plain (decimal n) (digits_decimal own n lt)) ∙ append-nil (decimal n))
 
@@ -46,11 +64,15 @@ pub reply_parts : (code columns : ℕ) (ts : List Token) → code < 2 ^ 32 → c
 reply_parts code columns ts small few =
     reply_is code columns ts small few ∙ rw (append_assoc, append_assoc) refl
 
-pub reply_whole : (old out : List ℕ) (code columns : ℕ) (ts : List Token) → code < 2 ^ 32 → columns < 2 ^ 32
-    → out ++ [] ≡ old ++ (decimal code ++ 9 ∷ decimal columns ++ behind_tabs ts) → out ++ 10 ∷ [] ≡ old ++ reply_line code columns ts
-reply_whole old out code columns ts small few e =
-    let body = decimal code ++ 9 ∷ decimal columns ++ behind_tabs ts in
-    ap (λ (l : List ℕ). l ++ 10 ∷ []) (sym (append-nil out) ∙ e) ∙ (append_assoc old body (10 ∷ []) ∙ ap (λ (l : List ℕ). old ++ l) (sym (reply_is code columns ts small few)))
+pub reply_whole : (old head mid new : List ℕ) (code columns : ℕ) (ts : List Token) → code < 2 ^ 32 → columns < 2 ^ 32
+    → head ≡ old ++ reply_head code columns → mid ≡ head ++ behind_tabs ts → new ≡ mid ++ 10 ∷ [] → new ≡ old ++ reply_line code columns ts
+reply_whole old head mid new code columns ts small few begun more end =
+    let body = reply_head code columns ++ behind_tabs ts in
+    let front : mid ≡ old ++ body =
+    more ∙ (ap (λ (l : List ℕ). l ++ behind_tabs ts) begun ∙ append_assoc old (reply_head code columns) (behind_tabs ts)) in
+    let whole : new ≡ old ++ (body ++ 10 ∷ []) =
+    end ∙ (ap (λ (l : List ℕ). l ++ 10 ∷ []) front ∙ append_assoc old body (10 ∷ [])) in
+    whole ∙ ap (λ (l : List ℕ). old ++ l) (sym (reply_parts code columns ts small few))
 
 pub extends_more : (old mid now : List ℕ) → Extends old mid → Extends mid now → Extends old now
 extends_more old mid now first more = (first.0 ++ more.0, more.1 ∙ (ap (λ (l : List ℕ). l ++ more.0) first.1 ∙ append_assoc old first.0 more.0))

@@ -1,4 +1,5 @@
--- The numbers that texts write in decimal. The printed form of a number is std's `decimal`, and `signed_decimal` of an integer.
+-- The numbers that texts write in decimal. The printed form of a number is std's `decimal`, and
+-- `signed_decimal` of an integer.
 use Rattle.std.specs.Prelude.{ℕ, ◌+◌, ◌^◌, ℤ, pos, neg_ℤ, List, [], ◌∷◌, Option, Some, None, option_map, Bool, false, ◌&&◌, ◌==◌, nat_lt, if◌then◌else◌}
 use Rattle.std.specs.Str.{all_ascii_digits}
 use Rattle.std.specs.Str.Parse.{digits_value}
@@ -10,11 +11,17 @@ is_number (b ∷ bs) = all_ascii_digits (b ∷ bs)
 
 -- The number that one or more digits write, where it is below the bound. Zeros may lead.
 abbrev pub number_below : ℕ → List ℕ → Option ℕ
-number_below bound text = if is_number text && nat_lt (digits_value 10 text) bound then Some (digits_value 10 text) else None
+number_below bound text =
+    if is_number text && nat_lt (digits_value 10 text) bound then Some (digits_value 10 text)
+    else None
 
 -- The number below 2^32 that a text writes.
 abbrev pub u32_of : List ℕ → Option ℕ
 u32_of text = number_below (2 ^ 32) text
+
+-- The number below 2^64 that a text writes.
+abbrev pub u64_of : List ℕ → Option ℕ
+u64_of text = number_below (2 ^ 64) text
 
 -- The integer from -2^63 to 2^63 - 1 that a text writes, with a sign in front or none.
 abbrev pub i64_of : List ℕ → Option ℤ

@@ -25,8 +25,9 @@ Gives view (Err fault) read = Fails fault read
 abbrev pub is_second : ℕ → Bool
 is_second b = nat_le 64 b && nat_lt b 80
 
--- Whether a byte is bad between these two, where an HT stands for the line's ends. 0x01 is bad unless the second byte of a pair
--- follows in the same token, 0x00 unless it is the whole token, and HT never; every other byte below 0x10 is bad.
+-- Whether a byte is bad between these two, where an HT stands for the line's ends. 0x01 is bad
+-- unless the second byte of a pair follows in the same token, 0x00 unless it is the whole token, and
+-- HT never; every other byte below 0x10 is bad.
 abbrev pub is_bad : ℕ → ℕ → ℕ → Bool
 is_bad before b after =
     if b == 1 then not (is_second after)
@@ -35,7 +36,9 @@ is_bad before b after =
 
 -- Whether the byte at this place of a line is bad.
 abbrev pub is_bad_at : List ℕ → ℕ → Bool
-is_bad_at line place = is_bad (slice_index_or (9 ∷ line) place 9) (slice_index_or line place 9) (slice_index_or line (place + 1) 9)
+is_bad_at line place =
+    is_bad (slice_index_or (9 ∷ line) place 9) (slice_index_or line place 9)
+    (slice_index_or line (place + 1) 9)
 
 -- The first bad place is a bad place, and no place before it is one.
 pub record IsFirstBad (line : List ℕ) (place : ℕ) : Type 0 where
@@ -50,7 +53,8 @@ next_byte (b ∷ bs) = b
 -- The first bad place among these bytes, which stand from this place on behind this byte.
 abbrev pub first_bad_from : ℕ → ℕ → List ℕ → Option ℕ
 first_bad_from place before [] = None
-first_bad_from place before (b ∷ bs) = if is_bad before b (next_byte bs) then Some place else first_bad_from (place + 1) b bs
+first_bad_from place before (b ∷ bs) =
+    if is_bad before b (next_byte bs) then Some place else first_bad_from (place + 1) b bs
 
 -- The first bad place of a line, if it has one.
 abbrev pub first_bad : List ℕ → Option ℕ

@@ -35,7 +35,8 @@ reply_head code columns = decimal code ++ 9 ∷ decimal columns
 
 -- A reply is a line of the code, the number of columns and the tokens, with its LF.
 abbrev pub reply_line : ℕ → ℕ → List Token → List ℕ
-reply_line code columns tokens = line_spelled (Text (decimal code) ∷ Text (decimal columns) ∷ tokens) ++ 10 ∷ []
+reply_line code columns tokens =
+    line_spelled (Text (decimal code) ∷ Text (decimal columns) ∷ tokens) ++ 10 ∷ []
 
 -- A text is of bytes.
 abbrev pub IsToken : Token → Type 0

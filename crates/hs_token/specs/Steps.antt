@@ -6,7 +6,8 @@ use Rattle.hs_token.specs.Reading.{fields_of}
 pub record EndsPiece (line : List ℕ) (start end : ℕ) : Type 0 where
   pub order : start ≤ end
   pub within : end < length line
-  pub pieces : fields_of (drop start line) ≡ slice_range line start end ∷ fields_of (drop (end + 1) line)
+  pub pieces :
+      fields_of (drop start line) ≡ slice_range line start end ∷ fields_of (drop (end + 1) line)
 
 -- Whether an 0x01 is among these bytes.
 abbrev pub has_escape : List ℕ → Bool

@@ -1,18 +1,19 @@
-//! What holds of the spelling itself, whoever writes or reads it, and lines of the protocol written out.
+//! What holds of the spelling itself, whoever writes or reads it, and lines of the protocol.
 ghost use Rattle.std.specs.Prelude.{◌≡◌, ◌≢◌, ◌<◌, ◌^◌, ℕ, ℤ, pos, negsuc, List, [], ◌∷◌, ◌++◌, Ok, Err, Some, None, codes, decimal, FitsSigned};
 ghost use Rattle.std.specs.Int.{w64};
 ghost use Rattle.std.specs.Fmt.{signed_decimal};
 ghost use Rattle.std.specs.List.{AllByRecursion};
 ghost use Rattle.hs_token.specs.declared.tokens.Token.{Token};
-ghost use Rattle.hs_token.specs.Spelling.{token_spelled, line_spelled, behind_tabs, reply_head, reply_line};
+ghost use Rattle.hs_token.specs.Spelling.{token_spelled, line_spelled, behind_tabs, reply_head, reply_line, text_spelled};
 ghost use Rattle.hs_token.specs.Reading.{IsFirstBad, line_at};
-ghost use Rattle.hs_token.specs.Number.{u32_of, i64_of};
+ghost use Rattle.hs_token.specs.Number.{u32_of, u64_of, i64_of};
 ghost use Rattle.hs_token.specs.Examples.{long_row, long_row_bytes};
 
 /// No two tokens share a spelling, and neither do two lists of at least one token.
 pub fn spellings_are_unique()
     ensures token { (t u : Token) → token_spelled t ≡ token_spelled u → t ≡ u }
-    ensures line { (ts us : List Token) → ts ≢ [] → us ≢ [] → line_spelled ts ≡ line_spelled us → ts ≡ us }
+    ensures line { (ts us : List Token) → ts ≢ [] → us ≢ []
+        → line_spelled ts ≡ line_spelled us → ts ≡ us }
 {}
 
 /// What is spelled is read again, and no LF is in it.
@@ -35,10 +36,12 @@ pub fn replies_have_parts()
         → reply_line code columns ts ≡ reply_head code columns ++ behind_tabs ts ++ 10 ∷ [] }
 {}
 
-/// A number in its printed form is read again.
+/// A number in its printed form is read again, and stands for itself.
 pub fn printed_numbers_are_read()
-    ensures unsigned { (n : ℕ) → n < 2 ^ 32 → u32_of (decimal n) ≡ Some n }
+    ensures narrow { (n : ℕ) → n < 2 ^ 32 → u32_of (decimal n) ≡ Some n }
+    ensures unsigned { (n : ℕ) → n < 2 ^ 64 → u64_of (decimal n) ≡ Some n }
     ensures signed { (z : ℤ) → FitsSigned w64 z → i64_of (signed_decimal z) ≡ Some z }
+    ensures plain { (n : ℕ) → n < 2 ^ 64 → text_spelled (decimal n) ≡ decimal n }
 {}
 
 /// Lines of the protocol, written out.
@@ -46,7 +49,8 @@ pub fn example_lines()
     // A text of a tab alone is 01 49.
     ensures tab { token_spelled (Token.Text (9 ∷ [])) ≡ 1 ∷ 73 ∷ [] }
     ensures empty_line { line_at [] ≡ Ok (Token.Text [] ∷ []) }
-    ensures reply { reply_line 0 3 (Token.Text (codes "1") ∷ Token.Text (codes "ann") ∷ Token.Null ∷ [])
+    ensures reply { reply_line 0 3
+        (Token.Text (codes "1") ∷ Token.Text (codes "ann") ∷ Token.Null ∷ [])
         ≡ codes "0\t3\t1\tann\t" ++ 0 ∷ 10 ∷ [] }
     // A row with NULL, an empty text and bytes that don't stand for themselves, both ways.
     ensures long_row_read { line_at long_row_bytes ≡ Ok long_row }
@@ -65,6 +69,8 @@ pub fn example_faults()
 pub fn example_numbers()
     ensures greatest_u32 { u32_of (codes "4294967295") ≡ Some 4294967295 }
     ensures past_u32 { u32_of (codes "4294967296") ≡ None }
+    ensures greatest_u64 { u64_of (codes "18446744073709551615") ≡ Some 18446744073709551615 }
+    ensures past_u64 { u64_of (codes "18446744073709551616") ≡ None }
     ensures leading_zeros { u32_of (codes "00000000000007") ≡ Some 7 }
     ensures no_digits { u32_of [] ≡ None }
     ensures greatest_i64 { i64_of (codes "+9223372036854775807") ≡ Some (pos 9223372036854775807) }

@@ -15,7 +15,8 @@ use thiserror::Error;
 /// Why a line has no tokens.
 #[derive(Debug, Drop, Error)]
 pub enum TokenFault {
-    /// The line's fault: no tokens are spelled so, and this is the place of the first bad byte, counted from 0.
+    /// The line's fault: no tokens are spelled so, and this is the place of the first bad byte,
+    /// counted from 0.
     #[error("no token is spelled so: byte {0} of the line")]
     BadToken(usize),
     #[error("memory ran out")]
@@ -32,10 +33,10 @@ impl From<AllocError> for TokenFault {
     }
 }
 
-/// The tokens of a line without its LF. A text that has no escape is a part of the line, with which it shares the memory.
+/// The tokens of a line without its LF. The texts share one copy of the line where they can.
 ///
 /// An LF in the line is a bad byte, as any other below 0x10.
-pub fn decode_line(alloc: Global, line: &Bytes) -> Result<Vec<Token>, TokenFault>
+pub fn decode_line(alloc: Global, line: &[u8]) -> Result<Vec<Token>, TokenFault>
     // What is read is spelled so.
     ensures found { IfOk result (λ tokens. (tokens.items ≢ []) × AllByRecursion IsToken tokens.items
         × (line.now ≡ line_spelled tokens.items)) }
@@ -43,7 +44,28 @@ pub fn decode_line(alloc: Global, line: &Bytes) -> Result<Vec<Token>, TokenFault
     ensures only { (tokens : List Token) → tokens ≢ [] → line.now ≡ line_spelled tokens
         → Gives (λ v. v.items) result (Ok tokens) }
     // A line is refused at its first bad place, and for nothing else.
-    ensures bad { (place : ℕ) → (result ≡ Err (TokenFault.BadToken place)) ↔ IsFirstBad line.now place }
+    ensures bad { (place : ℕ) →
+        (result ≡ Err (TokenFault.BadToken place)) ↔ IsFirstBad line.now place }
+    ensures exact { Gives (λ v. v.items) result (line_at line.now) }
+{
+    match shape_of(line) {
+        Err(place) => Err(TokenFault::BadToken(place)),
+        Ok(shape) => Ok(split_copy(alloc, line, shape)?),
+    }
+}
+
+/// The same of a line whose memory is shared: a text that has no escape is a part of it, of which
+/// no byte is copied.
+pub fn decode_shared(alloc: Global, line: &Bytes) -> Result<Vec<Token>, TokenFault>
+    // What is read is spelled so.
+    ensures found { IfOk result (λ tokens. (tokens.items ≢ []) × AllByRecursion IsToken tokens.items
+        × (line.now ≡ line_spelled tokens.items)) }
+    // What is spelled so is read, unless memory runs out.
+    ensures only { (tokens : List Token) → tokens ≢ [] → line.now ≡ line_spelled tokens
+        → Gives (λ v. v.items) result (Ok tokens) }
+    // A line is refused at its first bad place, and for nothing else.
+    ensures bad { (place : ℕ) →
+        (result ≡ Err (TokenFault.BadToken place)) ↔ IsFirstBad line.now place }
     ensures exact { Gives (λ v. v.items) result (line_at line.now) }
 {
     match shape_of(line.as_slice()) {
@@ -124,6 +146,15 @@ fn is_bad(before: u8, byte: u8, after: u8) -> bool
     }
 }
 
+/// The tokens of a line without a bad byte, with a copy of it.
+fn split_copy(alloc: Global, line: &[u8], shape: Shape) -> Result<Vec<Token>, AllocError>
+    requires tokens { shape.tokens ≡ length (fields_of line.now) }
+    requires escape { shape.has_escape ≡ has_escape line.now }
+    ensures { IfOk result (λ tokens. tokens.items ≡ map token_of (fields_of line.now)) }
+{
+    split(alloc, &Bytes::copy_from_slice(alloc, line)?, shape)
+}
+
 /// The tokens of a line without a bad byte.
 fn split(alloc: Global, line: &Bytes, shape: Shape) -> Result<Vec<Token>, AllocError>
     requires tokens { shape.tokens ≡ length (fields_of line.now) }
@@ -176,7 +207,8 @@ fn token(
     Ok(Token::Text(Bytes::from_vec(text(alloc, field)?)?))
 }
 
-/// Whether the bytes of a text are those that stand for it. Only a line that has an escape is looked at for one.
+/// Whether the bytes of a text are those that stand for it. Only a line that has an escape is
+/// looked at for one.
 fn is_plain(field: &[u8], line_has_escape: bool) -> bool
     requires { line_has_escape ≡ false → text_of false field.now ≡ field.now }
     ensures { IsTrue result → text_of false field.now ≡ field.now }

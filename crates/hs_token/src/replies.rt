@@ -1,13 +1,12 @@
 //! Writing a reply.
-ghost use Rattle.std.specs.Prelude.{◌≡◌, ◌∷◌, ◌++◌, OnOk, OnErr, decimal};
-ghost use Rattle.hs_token.specs.Spelling.{token_spelled, reply_head, reply_line};
+ghost use Rattle.std.specs.Prelude.{◌≡◌, ◌++◌, OnOk, OnErr, decimal};
+ghost use Rattle.hs_token.specs.Spelling.{reply_head, reply_line};
 ghost use Rattle.hs_token.specs.Steps.{Extends};
 
-use crate::tokens::{TAB, Token, push_token};
+use crate::spelling::append_behind_tabs;
+use crate::tokens::{LINE_FEED, TAB, Token};
 use itoa::Buffer;
 use std::alloc::AllocError;
-
-const LINE_FEED: u8 = 0x0A;
 
 /// Appends a reply: the code, the number of columns, the tokens and the LF.
 pub fn push_reply(
@@ -37,9 +36,7 @@ fn append_reply(
     ensures err { OnErr result (Extends out.old.items out.new.items) }
 {
     append_head(out, code, columns)?;
-    for token in tokens {
-        append_behind_tab(out, token)?;
-    }
+    append_behind_tabs(out, tokens)?;
     Ok(out.push(LINE_FEED)?)
 }
 
@@ -51,14 +48,6 @@ pub(crate) fn append_head(out: &mut Vec<u8>, code: u32, columns: u32) -> Result<
     append_number(out, code)?;
     out.push(TAB)?;
     append_number(out, columns)
-}
-
-fn append_behind_tab(out: &mut Vec<u8>, token: &Token) -> Result<(), AllocError>
-    ensures ok { OnOk result (out.new.items ≡ out.old.items ++ 9 ∷ token_spelled token.now) }
-    ensures err { OnErr result (Extends out.old.items out.new.items) }
-{
-    out.push(TAB)?;
-    push_token(out, token)
 }
 
 fn append_number(out: &mut Vec<u8>, number: u32) -> Result<(), AllocError>

@@ -7,7 +7,10 @@ use bytes::Bytes;
 use std::alloc::AllocError;
 
 /// What stands between two tokens of a line.
-pub(crate) const TAB: u8 = 0x09;
+pub const TAB: u8 = 0x09;
+
+/// What ends a line, and stands in none.
+pub const LINE_FEED: u8 = 0x0A;
 
 /// The byte before a byte of a text that would not stand for itself.
 pub(crate) const ESCAPE: u8 = 0x01;

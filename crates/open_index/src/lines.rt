@@ -14,7 +14,7 @@ use crate::requests::{Auth, Resolved};
 use crate::tokens::{is_word, u32_at};
 use bytes::Bytes;
 use request_types::{Code, Fault, Port};
-use hs_token::{Token, TokenFault, decode_line};
+use hs_token::{Token, TokenFault, decode_shared};
 use row_types::{ByteText, Schema};
 use std::alloc::{AllocError, Global};
 
@@ -125,7 +125,7 @@ fn line_means(alloc: Global, context: &Context, line: &Bytes) -> Result<Meaning,
     ensures { Gives (λ meaning. meaning) result (line_means context.now.schema.now context.now.port
         context.now.handles.now context.now.auth.now line.now) }
 {
-    match decode_line(alloc, line) {
+    match decode_shared(alloc, line) {
         Err(TokenFault::BadToken(_)) => Err(Fault::Refused(Code::Token)),
         Err(TokenFault::NoMemory) => Err(Fault::NoMemory),
         Ok(tokens) => tokens_mean(alloc, context, tokens.as_slice()),

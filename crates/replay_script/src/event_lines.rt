@@ -8,7 +8,7 @@ use crate::head_events::head_event;
 use crate::turn_events::turn_event;
 use bytes::Bytes;
 use hs_line::MAX_LINE_LEN;
-use hs_token::{Token, TokenFault, decode_line};
+use hs_token::{Token, TokenFault, decode_shared};
 use row_types::{ByteText, List};
 use std::alloc::{AllocError, Global};
 
@@ -19,7 +19,7 @@ pub fn event_of(alloc: Global, line: &Bytes) -> Result<Option<Event>, AllocError
     if line.len() > MAX_LINE_LEN {
         return Ok(None);
     }
-    match decode_line(alloc, line) {
+    match decode_shared(alloc, line) {
         Ok(tokens) => event_of_tokens(alloc, tokens),
         Err(TokenFault::BadToken(_)) => Ok(None),
         Err(TokenFault::NoMemory) => Err(AllocError),

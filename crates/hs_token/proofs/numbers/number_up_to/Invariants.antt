@@ -1,11 +1,11 @@
-use Rattle.std.proofs.Common.{◌≡◌, ◌<◌, drop}
+use Rattle.std.proofs.Common.{◌≡◌, ◌≤◌, drop}
 use Rattle.std.specs.Str.{all_ascii_digits}
 use Rattle.std.specs.Str.Parse.{digits_value_after, digits_value}
-use Rattle.hs_token.proofs.numbers.number_below.Given as goal
+use Rattle.hs_token.proofs.numbers.number_up_to.Given as goal
 
 abbrev pub invariant-loop-digit : goal.invariant-loop-digit
 invariant-loop-digit l = record {
-  below : l.number < l.bound;
+  below : l.number ≤ l.greatest;
   digits : all_ascii_digits (drop l.digit-index l.digits) ≡ all_ascii_digits l.digits;
   value : digits_value_after 10 l.number (drop l.digit-index l.digits) ≡ digits_value 10 l.digits;
 }
