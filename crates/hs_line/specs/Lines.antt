@@ -30,11 +30,14 @@ rest_of (b ∷ bytes) = if has_lf (b ∷ bytes) then rest_of bytes else b ∷ by
 abbrev pub whole_lines : List ℕ → List (List ℕ)
 whole_lines bytes = take_while (λ line. nat_le (length line) MAX_LINE_LEN) (lines_of bytes)
 
--- whether the first line is longer than a line may be, ended or not: so many bytes and one more are
--- there without an LF
+-- whether the first line is longer than this, ended or not: so many bytes and one more are there
+-- without an LF
+abbrev pub starts_longer : ℕ → List ℕ → Bool
+starts_longer most bytes = nat_lt most (length bytes) && not (has_lf (take (most + 1) bytes))
+
+-- whether the first line is longer than a line may be
 abbrev pub is_too_long : List ℕ → Bool
-is_too_long bytes =
-    nat_lt MAX_LINE_LEN (length bytes) && not (has_lf (take (MAX_LINE_LEN + 1) bytes))
+is_too_long bytes = starts_longer MAX_LINE_LEN bytes
 
 -- lines, each with its LF, and bytes after them
 abbrev pub joined : List (List ℕ) → List ℕ → List ℕ

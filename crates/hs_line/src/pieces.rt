@@ -1,8 +1,8 @@
 //! A stream in pieces, pushed one after another, with lines taken in between.
-ghost use Rattle.std.specs.Prelude.{◌≡◌, ◌+◌, ◌<◌, ◌≤◌, [], ◌++◌, length, take, vec_len, slice_get, IfOk, OnOk, IfSome};
+ghost use Rattle.std.specs.Prelude.{◌≡◌, ◌+◌, ◌<◌, ◌≤◌, [], ◌++◌, length, min, take, vec_len, slice_get, IfOk, OnOk, IfSome};
 ghost use Rattle.std.specs.List.{AllByRecursion};
 ghost use Rattle.hs_line.specs.Lines.{lines_of, rest_of};
-ghost use Rattle.hs_line.specs.Pieces.{stream_of, most_taken, IsDrained};
+ghost use Rattle.hs_line.specs.Pieces.{stream_of, held_after, IsDrained};
 
 use crate::buffer::LineBuf;
 use crate::limits::BUFFER_SIZE;
@@ -29,8 +29,8 @@ pub struct Cut {
 fn take_lines(held: &mut LineBuf, lines: &mut Vec<Bytes>, asked: usize) -> Result<(), AllocError>
     ensures lines { lines.new.items ++ lines_of held.new ≡ lines.old.items ++ lines_of held.old }
     ensures rest { rest_of held.new ≡ rest_of held.old }
-    ensures asked { vec_len lines.new ≤ vec_len lines.old + asked }
-    ensures drained { OnOk result (length (lines_of held.old) ≤ asked → lines_of held.new ≡ []) }
+    ensures count { OnOk result (length lines.new.items
+        ≡ length lines.old.items + min asked (length (lines_of held.old))) }
 {
     for _ in 0..asked {
         lines.reserve(1)?;
@@ -51,9 +51,9 @@ pub fn cut_pieces(alloc: Global, pieces: &[Piece]) -> Result<Cut, AllocError>
     ensures rest { IfOk result (λ cut. rest_of cut.held
         ≡ rest_of (stream_of (take cut.pushed pieces.now))) }
 
-    // No more lines than were asked for, and all of them where each piece asks for enough.
-    ensures asked { IfOk result (λ cut. vec_len cut.lines
-        ≤ most_taken (take cut.pushed pieces.now)) }
+    // After each piece as many lines are taken as it asks for, or all that are held.
+    ensures held { IfOk result (λ cut. length (lines_of cut.held)
+        ≡ held_after 0 (take cut.pushed pieces.now)) }
     ensures drained { IfOk result (λ cut. AllByRecursion IsDrained pieces.now →
         lines_of cut.held ≡ []) }
 

@@ -1,18 +1,7 @@
-use Rattle.std.proofs.Common.{◌≡◌, ℕ, List, Option, Some, None, drop, length, ◌-◌, nat_lt, arith, length-drop, ap, sym, subst, ◌∙◌}
-use Rattle.hs_line.specs.Held.{FirstLine}
-use Rattle.hs_line.proofs.WholeLines.{too_long, too_long-none}
-use Rattle.hs_line.proofs.FirstLines.{too_long-first}
+use Rattle.std.proofs.Common.{ℕ, ap, ◌∙◌}
+use Rattle.hs_line.specs.Lines.{starts_longer}
 use Rattle.hs_line.proofs.buffer.LineBuf.is_too_long.Goals as goal
 
-pub returns-in-Some : goal.returns-in-Some
-returns-in-Some c =
-    let held : List ℕ = drop c.self.inside.taken c.self.inside.bytes.items in
-    let first : FirstLine held (Some c.in-Some.len) = subst (λ (r : Option ℕ). FirstLine held r) c.in-Some.is c.self.invariant.3 in
-    sym (ap (too_long 65536) (sym c.self.view_is) ∙ too_long-first 65536 held c.in-Some.len first)
-
-pub returns-in-None : goal.returns-in-None
-returns-in-None c =
-    let held : List ℕ = drop c.self.inside.taken c.self.inside.bytes.items in
-    let none : FirstLine held None = subst (λ (r : Option ℕ). FirstLine held r) c.in-None.is c.self.invariant.3 in
-    let size : c.len.result - c.self.inside.taken ≡ length held = omega (arith, length-drop c.self.inside.taken c.self.inside.bytes.items, c.self.inside.bytes.ok.0) in
-    sym (ap (too_long 65536) (sym c.self.view_is) ∙ too_long-none 65536 held none ∙ ap (nat_lt 65536) (sym size))
+pub returns : goal.returns
+returns c =
+    c.is_too_long.ensures ∙ ap (λ (most : ℕ). starts_longer most c.self.inside.held.bytes) c.self.invariant ∙ ap (starts_longer 65536) c.self.view_is
