@@ -4,7 +4,7 @@
 --     noted_by      what leads back keeps the shape of the tables
 --     goes_noted, goes_none, goes_then      the same where slots were added
 --     taken_back      the rows once all is taken back
-use Rattle.std.proofs.Common.{◌≡◌, ℕ, ◌≤◌, List, [], ◌∷◌, ◌++◌, length, drop, take, refl, ap, sym, subst, ◌∙◌, arith, length-set}
+use Rattle.std.proofs.Common.{◌≡◌, ◌≤◌, List, [], ◌∷◌, ◌++◌, length, drop, take, refl, ap, sym, subst, ◌∙◌, arith, length-set}
 use Rattle.std.proofs.Math.Seq.{take-append_seam}
 use Rattle.std.proofs.lemmas.List.{take_all, take-append-drop, take-append-le, length-append}
 use Rattle.table_rows.specs.declared.undo.Undo.{Undo}

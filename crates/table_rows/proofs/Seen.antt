@@ -1,7 +1,8 @@
 -- A store, seen as a table.
---     put_seen, replaced_seen, taken_seen, roomy_seen, same_seen      a store that has changed
+--     put_seen, replaced_seen, taken_seen, roomy_seen, wanted_seen      a store that has changed
 --     walk_seen      the order of an index
-use Rattle.std.proofs.Common.{◌≡◌, ℕ, ◌+◌, ◌≤◌, List, ◌++◌, length, set, replicate, Some, None, refl, ap, sym, ◌∙◌, arith, length-set}
+use Rattle.std.proofs.Common.{◌≡◌, ℕ, ◌+◌, ◌-◌, max, List, ◌++◌, length, set, replicate, Some, None, refl, ap, sym, ◌∙◌, arith, length-set}
+use Rattle.std.proofs.lemmas.List.{length-append, length-replicate}
 use Rattle.row_types.specs.declared.values.Value.{Value}
 use Rattle.table_rows.specs.Entries as store
 use Rattle.table_rows.specs.Entries.{Slots, Entry, kept, vacancies, row_at, walk}
@@ -11,8 +12,9 @@ use Rattle.table_rows.proofs.KeptRows.{count_kept}
 use Rattle.table_rows.proofs.WalkChanges.{walk_with_vacant}
 use Rattle.table_rows.specs.Rows.{Rows}
 use Rattle.table_rows.specs.Slots.{without}
-use Rattle.table_rows.specs.Table.{table_in, with_row_in, without_in, with_room, walk_by}
-use Rattle.table_rows.proofs.Kept.{kept_count, room_more, entries_put, entries_without, entries_replaced, walk_there}
+use Rattle.table_rows.specs.Table.{rows_in, table_in, with_row_in, without_in, with_room, walk_by}
+use Rattle.table_rows.specs.Widths.{room_for}
+use Rattle.table_rows.proofs.Kept.{kept_count, entries_put, entries_without, entries_replaced, walk_there}
 
 -- a table's parts
 table_is : (s : Contents) (slots : Slots) (rows : Rows) → walk s.key slots ≡ rows.entries → length slots ≡ rows.room → table_in (record { key = s.key; orders = s.orders; slots = slots }) ≡ record { key = s.key; orders = s.orders; rows = rows }
@@ -38,11 +40,10 @@ roomy_seen s after n key orders slots =
     ∙ table_is s (s.slots ++ replicate n None) (record { entries = walk s.key s.slots; room = length (s.slots ++ replicate n None) }) (walk_with_vacant s.key s.slots n) refl
     ∙ ap (λ (ss : Slots). with_room (table_in s) (length ss)) (sym slots)
 
-pub same_seen : (s after : Contents) → after ≡ s → table_in after ≡ with_room (table_in s) (length after.slots)
-same_seen s after same = ap table_in same ∙ ap (λ (c : Contents). with_room (table_in s) (length c.slots)) (sym same)
-
-pub wider : (s after : Contents) (n : ℕ) → after.slots ≡ s.slots ++ replicate n None → length s.slots ≤ length after.slots
-wider s after n slots = omega (arith, ap length slots, room_more s.key s.slots n)
-
-pub room_seen : (s : Contents) (n : ℕ) → n ≤ vacancies s.slots → length (walk s.key s.slots) + n ≤ length s.slots
-room_seen s n vacant = omega (arith, vacant, kept_count s.key s.slots, count_kept s.slots)
+pub wanted_seen : (s after : Contents) (n : ℕ) → after.slots ≡ s.slots ++ replicate (n - vacancies s.slots) None → length after.slots ≡ room_for n (rows_in s)
+wanted_seen s after n slots =
+    ap length slots ∙ length-append s.slots (replicate (n - vacancies s.slots) None) ∙ ap (λ (m : ℕ). length s.slots + m) (length-replicate (n - vacancies s.slots) None)
+    ∙ most_of (length s.slots) (vacancies s.slots) (length (walk s.key s.slots)) n (omega (arith, kept_count s.key s.slots, count_kept s.slots))
+  where
+    most_of : (room free kept n : ℕ) → kept + free ≡ room → room + (n - free) ≡ max room (kept + n)
+    most_of room free kept n whole = omega (arith, whole)

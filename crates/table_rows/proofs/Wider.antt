@@ -1,8 +1,10 @@
 -- More slots, and no row at all.
---     widened_valid, widened_total, widened_is, room_widened      a table with more slots
+--     widened_valid, widened_total, roomy_kept      a table with more slots
+--     slots_found, slots_widened      a table with as many as are wanted
 --     empty_valid, empty_total      tables without a row
-use Rattle.std.proofs.Common.{◌≡◌, ℕ, ◌+◌, ◌<◌, ◌≤◌, List, [], ◌∷◌, length, map, sum_by, OnOk, Result, refl, ap, sym, subst, ◌∙◌, arith}
+use Rattle.std.proofs.Common.{◌≡◌, ℕ, ◌+◌, ◌<◌, ◌≤◌, List, [], ◌∷◌, length, map, sum_by, OnOk, OnErr, Result, Ok, Err, le_refl, refl, ap, sym, subst, ◌∙◌, arith}
 use Rattle.std.specs.List.{AllByRecursion, AllZip}
+use Rattle.std.proofs.Math.Nat.{le-max_left, le-max_right}
 use Rattle.std.proofs.lemmas.List.Sums.{sum_by-set, sum_by-cons}
 use Rattle.row_types.specs.declared.indexes.IndexDef.{IndexDef}
 use Rattle.row_types.specs.declared.tables.TableDef.{TableDef}
@@ -11,10 +13,10 @@ use Rattle.row_types.specs.Valid.{IsValid}
 use Rattle.table_rows.specs.Rows.{Rows, State, no_rows, def_of, rows_of, entries_of, room_of, with_rows}
 use Rattle.table_rows.specs.Sizes.{entries_size, total, most_bytes}
 use Rattle.table_rows.specs.Valid.{AreUniqueIn, AreValidRows, IsValidState}
-use Rattle.table_rows.specs.Widths.{IsWidened, empty_state}
+use Rattle.table_rows.specs.Widths.{IsWidened, room_for, with_slots, empty_state}
 use Rattle.table_rows.specs.declared.tables.Tables.TheInside.{Inside}
 use Rattle.table_rows.specs.Indexes.{primary_of, parts_of}
-use Rattle.table_rows.specs.Table.{Table, empty_table}
+use Rattle.table_rows.specs.Table.{Table, empty_table, with_room}
 use Rattle.table_rows.specs.Inside.{seen, IsInside}
 use Rattle.table_rows.proofs.States.{rows_with, rows_valid, state_with}
 use Rattle.table_rows.proofs.Placed.{valid_room}
@@ -33,18 +35,29 @@ widened_valid state valid table within room wide =
     state_with state valid table within (roomy state table room) (valid_room (def_of state table) (rows_of state table) room wide (rows_valid state valid table within))
     (subst (λ (n : ℕ). n ≤ most_bytes) (sym (widened_total state table within room)) valid.bytes)
 
-pub widened_is : (state : State) (table : ℕ) → table < length state.tables → (room : ℕ) → room_of state table ≤ room → (after : State) → after ≡ with_rows state table (roomy state table room) → IsWidened table state after
-widened_is state table within room wide after is =
-    let there : room_of after table ≡ room = ap (λ (s : State). room_of s table) is ∙ ap (λ (rows : Rows). rows.room) (rows_with state table within (roomy state table room)) in
-    record {
-      rows = is ∙ ap (λ (n : ℕ). with_rows state table (roomy state table n)) (sym there);
-      room = subst (λ (n : ℕ). room_of state table ≤ n) (sym there) wide;
-    }
+-- a table that was given slots, or was refused them
+pub roomy_kept : {A E : Type 0} (r : Result A E) (t new : Table) (n : ℕ) → OnOk r (new ≡ with_room t (room_for n t.rows)) → OnErr r (new ≡ t) → (new ≡ with_room t new.rows.room) × (t.rows.room ≤ new.rows.room)
+roomy_kept (Ok x) t new n ok err =
+    let room = sym (ap (λ (u : Table). u.rows.room) ok) in
+    (ok ∙ ap (with_room t) room, subst (λ (m : ℕ). t.rows.room ≤ m) room (le-max_left t.rows.room (length t.rows.entries + n)))
+roomy_kept (Err x) t new n ok err =
+    let room = sym (ap (λ (u : Table). u.rows.room) err) in
+    (err ∙ ap (with_room t) room, subst (λ (m : ℕ). t.rows.room ≤ m) room (le_refl t.rows.room))
 
-pub room_widened : {A E : Type 0} (r : Result A E) (state : State) (table : ℕ) → table < length state.tables → (rows : Rows) (n : ℕ) (after : State) → after ≡ with_rows state table rows → OnOk r (length rows.entries + n ≤ rows.room) → OnOk r (length (entries_of after table) + n ≤ room_of after table)
-room_widened r state table within rows n after is room =
-    let there : rows_of after table ≡ rows = ap (λ (s : State). rows_of s table) is ∙ rows_with state table within rows in
-    subst (λ (these : Rows). OnOk r (length these.entries + n ≤ these.room)) (sym there) room
+-- so many rows find a slot
+pub slots_found : (state : State) (table : ℕ) → table < length state.tables → (n : ℕ) → length (entries_of (with_slots state table n) table) + n ≤ room_of (with_slots state table n) table
+slots_found state table within n =
+    subst (λ (rows : Rows). length rows.entries + n ≤ rows.room) (sym (rows_with state table within (roomy state table (room_for n (rows_of state table)))))
+    (le-max_right (room_of state table) (length (entries_of state table) + n))
+
+-- and they are more slots
+pub slots_widened : (state : State) (table : ℕ) → table < length state.tables → (n : ℕ) → IsWidened table state (with_slots state table n)
+slots_widened state table within n =
+    let there : room_of (with_slots state table n) table ≡ room_for n (rows_of state table) = ap (λ (rows : Rows). rows.room) (rows_with state table within (roomy state table (room_for n (rows_of state table)))) in
+    record {
+      rows = ap (λ (m : ℕ). with_rows state table (roomy state table m)) (sym there);
+      room = subst (λ (m : ℕ). room_of state table ≤ m) (sym there) (le-max_left (room_of state table) (length (entries_of state table) + n));
+    }
 
 -- no row at all
 empty_unique : (indexes : List IndexDef) → AllByRecursion (AreUniqueIn []) indexes

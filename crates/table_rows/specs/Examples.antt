@@ -1,5 +1,5 @@
 -- A small table, written out.
-use Rattle.std.specs.Prelude.{◌≡◌, ℕ, ◌<◌, ◌≤◌, length, List, [], ◌∷◌, codes, true, false, pos}
+use Rattle.std.specs.Prelude.{◌≡◌, ℕ, ◌<◌, length, List, [], ◌∷◌, codes, true, false, pos}
 use Rattle.row_types.specs.declared.columns.Column.{Column}
 use Rattle.row_types.specs.declared.columns.Kind.TheVariants.{Int, Bytes}
 use Rattle.row_types.specs.declared.indexes.IndexDef.{IndexDef}
@@ -9,7 +9,6 @@ use Rattle.row_types.specs.declared.values.Value.{Value}
 use Rattle.row_types.specs.declared.values.Value.TheVariants as values
 use Rattle.table_rows.specs.declared.slot_ref.SlotRef.{SlotRef}
 use Rattle.table_rows.specs.Rows.{State}
-use Rattle.table_rows.specs.Undoing.{Undos, since, AreUndoable}
 
 -- A number, a text of 4 bytes at most which may be missing, and another number.
 abbrev pub some_columns : List Column
@@ -49,9 +48,7 @@ third_row = some_row 3 (values.Text (codes "abcd")) 7
 abbrev pub slot_named : ℕ → SlotRef
 slot_named number = record { 0 = number }
 
--- What a test keeps: the table, and that all changes since its mark can be taken back.
-pub record IsPlay (mark : ℕ) (list : Undos) (state : State) : Type 0 where
+-- What a test keeps: the table.
+pub record IsPlay (state : State) : Type 0 where
   pub schema : state.schema ≡ some_schema
   pub tables : 0 < length state.tables
-  pub marked : mark ≤ length list.entries
-  pub undoable : AreUndoable (since mark list.entries) state

@@ -1,14 +1,23 @@
 -- Tables without rows, and slots for more rows.
-use Rattle.std.specs.Prelude.{◌≡◌, ℕ, ◌≤◌, map}
+use Rattle.std.specs.Prelude.{◌≡◌, ℕ, ◌+◌, ◌≤◌, length, map, max}
 use Rattle.std.specs.List.{AllZip}
 use Rattle.row_types.specs.declared.tables.TableDef.{TableDef}
 use Rattle.row_types.specs.declared.tables.Schema.{Schema}
-use Rattle.table_rows.specs.Rows.{Rows, State, no_rows, with_rows, entries_of, room_of}
+use Rattle.table_rows.specs.Rows.{Rows, State, no_rows, with_rows, rows_of, entries_of, room_of}
 
 -- A state in which no table has a row or a slot.
 abbrev pub empty_state : Schema → ℕ → State
 empty_state schema bytes_max =
     record { schema = schema; bytes_max = bytes_max; tables = map (λ (def : TableDef). no_rows) schema.tables }
+
+-- How many slots a table has where so many more rows find one: those that it has, or as many as are wanted.
+abbrev pub room_for : ℕ → Rows → ℕ
+room_for more rows = max rows.room (length rows.entries + more)
+
+-- The same state, in which so many more rows find a slot in this table.
+abbrev pub with_slots : State → ℕ → ℕ → State
+with_slots state table more =
+    with_rows state table (record { entries = entries_of state table; room = room_for more (rows_of state table) })
 
 -- The same state but for more slots in this table.
 pub record IsWidened (table : ℕ) (before after : State) : Type 0 where

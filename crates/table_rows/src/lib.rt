@@ -40,8 +40,6 @@ mod room;
 mod rounds;
 mod slot_ref;
 mod store;
-#[cfg(test)]
-mod store_tests;
 mod store_walk;
 mod tables;
 #[cfg(test)]

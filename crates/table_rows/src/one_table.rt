@@ -7,6 +7,7 @@ ghost use Rattle.table_rows.specs.Indexes.{primary_of, parts_of};
 ghost use Rattle.table_rows.specs.Slots.{IsVacant, is_live, row_of, without};
 ghost use Rattle.table_rows.specs.Table.{Table, empty_table, with_room, with_row_in, without_in, parts_by, columns_by, walk_by};
 ghost use Rattle.table_rows.specs.Walks.{begun, gone_on, walked};
+ghost use Rattle.table_rows.specs.Widths.{room_for};
 
 use crate::bound::Bound;
 use crate::edge::Edge;
@@ -45,9 +46,8 @@ impl OneTable {
 
     /// Sees to it that `n` more rows find a slot.
     pub(crate) fn reserve(&mut self, n: u32) -> Result<(), AllocError>
-        ensures widened { self.new ≡ with_room self.old self.new.rows.room }
-        ensures keeps_room { self.old.rows.room ≤ self.new.rows.room }
-        ensures room { OnOk result (length self.new.rows.entries + n ≤ self.new.rows.room) }
+        ensures ok { OnOk result (self.new ≡ with_room self.old (room_for n self.old.rows)) }
+        ensures err { OnErr result (self.new ≡ self.old) }
     {
         self.store.reserve(n)
     }

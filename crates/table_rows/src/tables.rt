@@ -9,7 +9,7 @@ ghost use Rattle.table_rows.specs.Checks.{IsRow, IsPlaceable, IsAllowed, verdict
 ghost use Rattle.table_rows.specs.Walks.{walk_of, begun, gone_on, walked, slot_of};
 ghost use Rattle.row_types.specs.Size.{row_size};
 ghost use Rattle.table_rows.specs.Valid.{AreValidRows, IsValidState};
-ghost use Rattle.table_rows.specs.Widths.{IsWidened, empty_state};
+ghost use Rattle.table_rows.specs.Widths.{with_slots, empty_state};
 ghost use Rattle.table_rows.specs.Undoing.{since, CanUndo, AreUndoable, undone, undone_all, LeadsBack};
 ghost use Rattle.table_rows.specs.declared.verdict.Verdict.TheVariants.{Fine};
 ghost use Rattle.table_rows.specs.declared.undo.Undo.TheVariants.{Put, Replaced, Deleted};
@@ -73,9 +73,10 @@ impl Tables {
     /// Sees to it that `rows` more rows find a slot in this table, and their changes a place in the list.
     pub fn reserve(&mut self, table: u32, rows: u32, undo: &mut UndoList) -> Result<(), AllocError>
         requires { table < length self.old.tables }
-        ensures widened { IsWidened table self.old self.new }
+        ensures ok { OnOk result (self.new ≡ with_slots self.old table rows) }
         ensures room { OnOk result
             (length (entries_of self.new table) + rows ≤ room_of self.new table) }
+        ensures err { OnErr result (self.new ≡ self.old) }
         ensures entries { undo.new.entries ≡ undo.old.entries }
         ensures spare { OnOk result (rows ≤ undo.new.spare) }
         ensures keeps_spare { undo.old.spare ≤ undo.new.spare }
@@ -154,7 +155,7 @@ impl Tables {
         requires undoable { AreUndoable (since mark undo.old.entries) self.old }
         ensures state { self.new ≡ undone_all (since mark undo.old.entries) self.old }
         ensures entries { undo.new.entries ≡ take mark undo.old.entries }
-        ensures spare { undo.old.spare ≤ undo.new.spare }
+        ensures spare { undo.new.spare + mark ≡ undo.old.spare + length undo.old.entries }
     {
         while undo.mark() > mark {
             let last = undo.pop();

@@ -1,11 +1,11 @@
 //! Changes of the rows, without a note of them.
-ghost use Rattle.std.specs.Prelude.{◌≡◌, ◌+◌, ◌<◌, ◌≤◌, length, true, None, OnOk};
+ghost use Rattle.std.specs.Prelude.{◌≡◌, ◌+◌, ◌<◌, ◌≤◌, length, true, None, OnOk, OnErr};
 ghost use Rattle.table_rows.specs.Rows.{def_of, entries_of, rows_of, room_of};
 ghost use Rattle.table_rows.specs.Slots.{IsVacant, is_live_in, row_at, with_row_at, without_at};
 ghost use Rattle.table_rows.specs.Sizes.{total_with, most_bytes};
 ghost use Rattle.table_rows.specs.Checks.{IsPlaceable};
 ghost use Rattle.table_rows.specs.Valid.{IsValidState};
-ghost use Rattle.table_rows.specs.Widths.{IsWidened};
+ghost use Rattle.table_rows.specs.Widths.{with_slots};
 
 use super::Tables;
 use row_types::{Row, row_size};
@@ -15,9 +15,10 @@ impl Tables {
     /// Sees to it that `rows` more rows find a slot.
     pub(super) fn widen(&mut self, table: u32, rows: u32) -> Result<(), AllocError>
         requires { table < length self.old.tables }
-        ensures widened { IsWidened table self.old self.new }
+        ensures ok { OnOk result (self.new ≡ with_slots self.old table rows) }
         ensures room { OnOk result
             (length (entries_of self.new table) + rows ≤ room_of self.new table) }
+        ensures err { OnErr result (self.new ≡ self.old) }
     {
         let store = &mut self.stores[table as usize];
         store.reserve(rows)

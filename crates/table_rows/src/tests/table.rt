@@ -1,23 +1,13 @@
 //! The table of the examples, and its rows.
-ghost use Rattle.std.specs.Prelude.{◌≡◌, ◌<◌, ◌≤◌, length, IfOk};
-ghost use Rattle.row_types.specs.declared.columns.Kind.TheVariants.{Bytes};
-ghost use Rattle.row_types.specs.declared.columns.Fit.TheVariants as fits_as;
+ghost use Rattle.std.specs.Prelude.{◌≡◌, ◌≤◌, IfOk};
 ghost use Rattle.row_types.specs.declared.values.Value.TheVariants as values;
-ghost use Rattle.row_types.specs.Fit.{kind_fit};
 ghost use Rattle.table_rows.specs.Sizes.{most_bytes};
 ghost use Rattle.table_rows.specs.Checks.{IsRow};
-ghost use Rattle.table_rows.specs.Widths.{empty_state};
 ghost use Rattle.table_rows.specs.Examples.{some_columns, some_indexes, some_schema, IsPlay};
 
-use crate::{Tables, UndoList};
+use crate::{Tables, UndoList, Verdict};
 use row_types::{ByteText, Column, IndexDef, IndexKind, Kind, List, Row, Schema, TableDef, Value};
 use std::alloc::{AllocError, Global};
-
-pub(super) fn text(alloc: Global, bytes: &[u8]) -> Result<Value, AllocError>
-    ensures { IfOk result (λ value. value ≡ values.Text bytes.now) }
-{
-    Ok(Value::Text(ByteText::of(alloc, bytes)?))
-}
 
 pub(super) fn column(
     alloc: Global,
@@ -85,44 +75,40 @@ pub(super) fn schema(alloc: Global) -> Result<Schema, AllocError>
     Ok(Schema { tables })
 }
 
-pub(super) fn new_tables(alloc: Global, bytes_max: u64) -> Result<Tables, AllocError>
+// A row without a code.
+pub(super) fn row(alloc: Global, id: i64, n: i64) -> Result<Row, AllocError>
+    ensures { IfOk result (λ row. IsRow some_columns row) }
+{
+    let mut row = List::new(alloc);
+    row.push(Value::Int(id))?;
+    row.push(Value::Null)?;
+    row.push(Value::Int(n))?;
+    Ok(row)
+}
+
+// The empty table.
+pub(super) fn begin(alloc: Global, bytes_max: u64) -> Result<Tables, AllocError>
     requires { bytes_max ≤ most_bytes }
-    ensures { IfOk result (λ tables. tables ≡ empty_state some_schema bytes_max) }
+    ensures { IfOk result IsPlay }
 {
     let schema = schema(alloc)?;
     Tables::new(alloc, &schema, bytes_max)
 }
 
-// A code: none, or one of four.
-pub(super) fn code(alloc: Global, which: u64) -> Result<Value, AllocError>
-    ensures { IfOk result (λ code. kind_fit (Bytes 4) code ≡ fits_as.Fine) }
+// Puts a row if it is fine, and says what was said of it.
+pub(super) fn try_put(
+    tables: &mut Tables,
+    row: Row,
+    undo: &mut UndoList,
+) -> Result<Verdict, AllocError>
+    requires play { IsPlay tables.old }
+    requires row { IsRow some_columns row }
+    ensures { IfOk result (λ verdict. IsPlay tables.new) }
 {
-    match which {
-        0 => text(alloc, b"a"),
-        1 => text(alloc, b"ab"),
-        2 => text(alloc, b"dcba"),
-        3 => text(alloc, b"abcd"),
-        _ => Ok(Value::Null),
+    tables.reserve(0, 1, undo)?;
+    let verdict = tables.check_put(0, &row, None);
+    if let Verdict::Fine = verdict {
+        tables.put(0, row, undo);
     }
-}
-
-pub(super) fn row(alloc: Global, id: i64, code: Value, n: i64) -> Result<Row, AllocError>
-    requires { kind_fit (Bytes 4) code ≡ fits_as.Fine }
-    ensures { IfOk result (λ row. IsRow some_columns row) }
-{
-    let mut row = List::new(alloc);
-    row.push(Value::Int(id))?;
-    row.push(code)?;
-    row.push(Value::Int(n))?;
-    Ok(row)
-}
-
-// An empty table, and no change.
-pub(super) fn begin(alloc: Global, bytes_max: u64) -> Result<(Tables, UndoList), AllocError>
-    requires { bytes_max ≤ most_bytes }
-    ensures { IfOk result (λ both. IsPlay 0 both.1 both.0) }
-{
-    let undo = UndoList::list_new(alloc);
-    let tables = new_tables(alloc, bytes_max)?;
-    Ok((tables, undo))
+    Ok(verdict)
 }

@@ -1,4 +1,4 @@
-use Rattle.std.proofs.Common.{◌≡◌, Bool, true, false, List, ap, sym, subst, ◌∙◌}
+use Rattle.std.proofs.Common.{◌≡◌, true, false, List, ap, sym, subst, ◌∙◌}
 use Rattle.table_rows.specs.Entries.{Entry}
 use Rattle.table_rows.specs.Contents.{columns_of}
 use Rattle.table_rows.specs.Walked.{upward, downward}
