@@ -1,4 +1,5 @@
 pub mod Streams
+pub mod Told
 pub mod Memory
 pub mod Links
 pub mod MemoryLink

@@ -7,9 +7,10 @@ use Rattle.hs_outside.specs.declared.links.Recv.TheVariants as recvs
 use Rattle.hs_outside.specs.declared.links.Sent.{Sent}
 use Rattle.hs_outside.specs.declared.links.Sent.TheVariants as sends
 
--- What is known of a link. Where it tells them: the bytes received and the bytes sent so far, the peer's bytes that are left, whether
--- the peer has ended, and how many bytes the link still takes, `Some None` where it sets no bound. And in any case: whether a call
--- has answered the end, how many have answered that nothing can be done yet, and how many failed.
+-- What is known of a link. Where it tells them: the bytes received and the bytes sent so far, the
+-- peer's bytes that are left, whether the peer has ended, and how many bytes the link still takes,
+-- `Some None` where it sets no bound. And in any case: whether a call has answered the end, how
+-- many have answered that nothing can be done yet, and how many failed.
 pub record Peer : Type 0 where
   pub received : Option (List ℕ)
   pub sent : Option (List ℕ)
@@ -30,9 +31,11 @@ pub record Took (old new : Peer) (bytes : List ℕ) : Type 0 where
   pub fits : old.room ≡ option_map (option_map (λ n. n + length bytes)) new.room
   pub rest : new ≡ record old { sent = append_known old.sent bytes; room = new.room }
 
--- Where the link tells them, none of the peer's bytes is left, and whether the peer has ended is as said.
+-- Where the link tells them, none of the peer's bytes is left, and whether the peer has ended is as
+-- said.
 abbrev pub HasNone : Peer → Bool → Type 0
-HasNone peer ended = IfSome peer.left (λ left. left ≡ []) × IfSome peer.peer_ended (λ is. is ≡ ended)
+HasNone peer ended =
+    IfSome peer.left (λ left. left ≡ []) × IfSome peer.peer_ended (λ is. is ≡ ended)
 
 -- Where the link tells it, it takes no more bytes.
 abbrev pub IsFull : Peer → Type 0
@@ -48,13 +51,15 @@ Broke old new = Rose old.faults new.faults × (new ≡ record old { faults = new
 
 -- A call for the peer's bytes gives some, or finds none yet, or the end, or fails.
 abbrev pub RecvDoes : Recv → Peer → Peer → List ℕ → Type 0
-RecvDoes (recvs.Got count) old new buffer = (0 < count) × (count ≤ length buffer) × Received old new (take count buffer)
+RecvDoes (recvs.Got count) old new buffer =
+    (0 < count) × (count ≤ length buffer) × Received old new (take count buffer)
 RecvDoes recvs.NotYet old new buffer = HasNone old false × Waited old new
 RecvDoes recvs.End old new buffer = HasNone old true × (new ≡ record old { is_ended = true })
 RecvDoes recvs.Failed old new buffer = Broke old new
 
 -- A call that hands over bytes has a front of them taken, or none yet, or fails.
 abbrev pub SentDoes : Sent → Peer → Peer → List ℕ → Type 0
-SentDoes (sends.Took count) old new bytes = (0 < count) × (count ≤ length bytes) × Took old new (take count bytes)
+SentDoes (sends.Took count) old new bytes =
+    (0 < count) × (count ≤ length bytes) × Took old new (take count bytes)
 SentDoes sends.NotYet old new bytes = IsFull old × Waited old new
 SentDoes sends.Failed old new bytes = Broke old new

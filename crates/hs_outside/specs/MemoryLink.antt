@@ -2,7 +2,8 @@
 use Rattle.std.specs.Prelude.{ℕ, Bool, false, List, [], min, Option, Some, None}
 use Rattle.hs_outside.specs.Links.{Peer}
 
--- A link in memory: all that a link may tell, and whether the next call is to fail and whether memory was refused.
+-- A link in memory: all that a link may tell, and whether the next call is to fail and whether
+-- memory was refused.
 pub record LinkInMemory : Type 0 where
   pub received : List ℕ
   pub sent : List ℕ

@@ -1,4 +1,5 @@
-//! The outside of the program, as traits: where bytes come from, where they go, and connections, which do both.
+//! The outside of the program, as traits: where bytes come from, where they go, and connections,
+//! which do both.
 //!
 //! | Trait | In memory, for tests | Over a real stream |
 //! |---|---|---|
@@ -6,10 +7,11 @@
 //! | `Sink` | `MemSink` | `StreamSink` over any writer |
 //! | `Link` | `MemLink` | |
 //!
-//! Each counts its failed calls, and answers a failure only where that count rose. A version in memory also tells its
-//! bytes, so that contracts can speak of them; a real stream tells nothing, and what stands of bytes is then not
-//! claimed. `write_all` gives bytes to a sink whole. `Port` names a server's three ports, and `ConnId` a connection. What
-//! the bytes mean is left to the crates above.
+//! Each counts its failed calls, and answers a failure only where that count rose. A version in
+//! memory also tells its bytes, so that contracts can speak of them. A stream tells none as a source
+//! or a sink, and nothing is claimed of them there; its own calls say of them what its reader or its
+//! writer tells. `write_all` gives bytes to a sink whole. `Port` names a server's three ports, and
+//! `ConnId` a connection. What the bytes mean is left to the crates above.
 #![tactic(auto)]
 
 mod copying;

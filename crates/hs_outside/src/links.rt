@@ -35,7 +35,8 @@ pub trait Link {
     fn faults(&self) -> u64
         ensures { result ≡ (peer self.now).faults };
 
-    /// How many calls answered that nothing can be done yet. A count at its type's end stands still.
+    /// How many calls answered that nothing can be done yet. A count at its type's end stands
+    /// still.
     fn idle(&self) -> u64
         ensures { result ≡ (peer self.now).idle };
 

@@ -71,7 +71,8 @@ impl MemLink {
 
     /// The peer sends a piece.
     pub fn peer_bytes(&mut self, piece: &[u8]) -> Result<(), AllocError>
-        ensures ok { OnOk result (self.new ≡ record self.old { left = self.old.left ++ piece.now }) }
+        ensures ok { OnOk result
+            (self.new ≡ record self.old { left = self.old.left ++ piece.now }) }
         ensures err { OnErr result (self.new ≡ record self.old { is_short = true }) }
     {
         if self.peer.extend_from_slice(piece).is_err() {
@@ -121,7 +122,8 @@ impl MemLink {
     /// Whether a call is to fail, which is counted.
     fn fails(&mut self) -> bool
         ensures named { IsTrue result ↔ (IsTrue self.old.fails_next ⊎ IsTrue self.old.is_short) }
-        ensures fails { IsTrue result → self.new ≡ record self.old { fails_next = false; faults = next_count self.old.faults } }
+        ensures fails { IsTrue result → self.new
+            ≡ record self.old { fails_next = false; faults = next_count self.old.faults } }
         ensures goes { IsFalse result → self.new ≡ self.old }
         ensures later { self.old.faults ≤ self.new.faults }
     {
@@ -162,6 +164,7 @@ impl Link for MemLink {
         ensures most { (count : ℕ) → result ≡ recvs.Got count →
             count ≡ min (length self.old.left) (length buffer.new) }
         ensures next { self.new.fails_next ≡ false }
+        ensures counted { result ≡ recvs.Failed → self.new.faults ≡ next_count self.old.faults }
         ensures short { self.new.is_short ≡ self.old.is_short }
     {
         if self.fails() {
@@ -187,13 +190,18 @@ impl Link for MemLink {
         ensures takes { SentDoes result (known_link self.old) (known_link self.new) bytes.now }
         ensures later { self.old.faults ≤ self.new.faults }
 
-        // It fails where it was told to, or memory is refused. Else it takes all that it has room for.
+        // It fails where it was told to, or memory is refused. Else it takes all that it has room
+        // for.
         ensures fails { (result ≡ sends.Failed)
             ↔ (IsTrue self.old.fails_next ⊎ IsTrue self.new.is_short) }
         ensures waits { result ≢ sends.Failed → (result ≡ sends.NotYet) ↔ (self.old.room ≡ Some 0) }
         ensures most { (count : ℕ) → result ≡ sends.Took count →
             count ≡ room_for self.old.room (length bytes.now) }
         ensures next { self.new.fails_next ≡ false }
+        ensures counted { result ≡ sends.Failed → self.new.faults ≡ next_count self.old.faults }
+
+        // A failure by name says nothing of memory, and once it was refused it stays so.
+        ensures named { IsTrue self.old.fails_next → self.new.is_short ≡ self.old.is_short }
         ensures short { IsTrue self.old.is_short → IsTrue self.new.is_short }
     {
         if self.fails() {

@@ -1,5 +1,5 @@
 //! A sink into memory, some of whose calls fail.
-ghost use Rattle.std.specs.Prelude.{ℕ, max, ◌≡◌, ◌↔◌, ◌⊎◌, ◌<◌, ◌≤◌, [], Contains, IfOk, IsErr, IsTrue, length};
+ghost use Rattle.std.specs.Prelude.{ℕ, max, min, ◌≡◌, ◌↔◌, ◌⊎◌, ◌<◌, ◌≤◌, [], Contains, IfOk, IsErr, IsTrue, length};
 ghost use Rattle.hs_outside.specs.Streams.{WriteDoes, SendDoes};
 ghost use Rattle.fault_count.specs.Cause.{next_count};
 ghost use Rattle.hs_outside.specs.Memory.{known_sink, sink_of};
@@ -94,7 +94,8 @@ impl MemSink {
 impl MemSink {
     /// Counts a call, and says whether it is to fail.
     fn fails(&mut self) -> bool
-        ensures named { IsTrue result ↔ (Contains self.old.fail_at (next_count self.old.calls) ⊎ IsTrue self.old.is_short) }
+        ensures named { IsTrue result ↔
+            (Contains self.old.fail_at (next_count self.old.calls) ⊎ IsTrue self.old.is_short) }
         ensures counted { self.new ≡ record self.old { calls = next_count self.old.calls } }
     {
         self.calls = raised(self.calls);
@@ -116,7 +117,14 @@ impl Sink for MemSink {
         ensures fails { (result ≡ writes.Failed)
             ↔ (Contains self.old.fail_at (next_count self.old.calls) ⊎ IsTrue self.new.is_short) }
         ensures calls { self.new.calls ≡ next_count self.old.calls }
-        ensures pieces { (count : ℕ) → result ≡ writes.Took count → count ≤ self.old.most }
+        ensures pieces { (count : ℕ) → result ≡ writes.Took count →
+            count ≡ min (length bytes.now) self.old.most }
+        ensures counted { result ≡ writes.Failed → self.new.faults ≡ next_count self.old.faults }
+
+        // A failure by name says nothing of memory, and once it was refused it stays so.
+        ensures named { Contains self.old.fail_at (next_count self.old.calls) →
+            self.new.is_short ≡ self.old.is_short }
+        ensures short { IsTrue self.old.is_short → IsTrue self.new.is_short }
         ensures kept { (self.new.fail_at ≡ self.old.fail_at) × (self.new.most ≡ self.old.most) }
     {
         if self.fails() {
@@ -138,6 +146,8 @@ impl Sink for MemSink {
         ensures fails { IsErr result
             ↔ (Contains self.old.fail_at (next_count self.old.calls) ⊎ IsTrue self.new.is_short) }
         ensures calls { self.new.calls ≡ next_count self.old.calls }
+        ensures counted { IsErr result → self.new.faults ≡ next_count self.old.faults }
+        ensures short { self.new.is_short ≡ self.old.is_short }
         ensures kept { (self.new.fail_at ≡ self.old.fail_at) × (self.new.most ≡ self.old.most) }
     {
         if self.fails() {

@@ -1,5 +1,5 @@
 //! A source over bytes in memory, some of whose reads fail.
-ghost use Rattle.std.specs.Prelude.{ℕ, max, ◌≡◌, ◌↔◌, ◌<◌, ◌≤◌, Contains, IfOk, length};
+ghost use Rattle.std.specs.Prelude.{ℕ, max, min, ◌≡◌, ◌↔◌, ◌<◌, ◌≤◌, Contains, IfOk, length};
 ghost use Rattle.hs_outside.specs.Streams.{ReadDoes};
 ghost use Rattle.fault_count.specs.Cause.{next_count};
 ghost use Rattle.hs_outside.specs.Memory.{known_source, source_of};
@@ -97,9 +97,12 @@ impl Source for MemSource {
         requires { 0 < length buffer.old }
         ensures gives { ReadDoes result (known_source self.old) (known_source self.new) buffer.new }
         ensures later { self.old.faults ≤ self.new.faults }
-        ensures fails { (result ≡ reads.Failed) ↔ Contains self.old.fail_at (next_count self.old.calls) }
+        ensures fails { (result ≡ reads.Failed)
+            ↔ Contains self.old.fail_at (next_count self.old.calls) }
         ensures calls { self.new.calls ≡ next_count self.old.calls }
-        ensures pieces { (count : ℕ) → result ≡ reads.Got count → count ≤ self.old.most }
+        ensures pieces { (count : ℕ) → result ≡ reads.Got count →
+            count ≡ min (min (length self.old.left) (length buffer.new)) self.old.most }
+        ensures counted { result ≡ reads.Failed → self.new.faults ≡ next_count self.old.faults }
         ensures kept { (self.new.fail_at ≡ self.old.fail_at) × (self.new.most ≡ self.old.most) }
     {
         self.calls = raised(self.calls);

@@ -1,12 +1,16 @@
-//! Sources and sinks over the readers and writers of std. Nothing is known of them but their faults.
-ghost use Rattle.std.specs.Prelude.{◌≡◌, None, false};
+//! Sources and sinks over the readers and writers of std, which may tell their bytes or not.
+ghost use Rattle.std.specs.Prelude.{◌≡◌, ◌<◌, ◌≤◌, [], None, OnOk, length, false};
+ghost use Rattle.std.specs.Io.KnownBytes.{Keeps};
+ghost use Rattle.hs_outside.specs.Streams.{ReadDoes, WriteDoes, SendDoes};
+ghost use Rattle.hs_outside.specs.Told.{unknown_source, unknown_sink, ReadTells, WriteTells};
 
 use crate::sinks::{Failed, Sink, Wrote};
 use crate::sources::{Read, Source};
 use fault_count::raised;
 use std::io;
 
-/// Reads from any reader. It tells no bytes.
+/// Reads from any reader. As a source it tells no bytes, since a reader may begin or cease to tell
+/// them: its own calls say what the reader tells.
 #[derive(Drop)]
 pub struct StreamSource<R> {
     pub reader: R,
@@ -14,7 +18,7 @@ pub struct StreamSource<R> {
     pub is_ended: bool,
 }
 
-/// Writes to any writer. It tells no bytes.
+/// Writes to any writer. As a sink it tells no bytes, as a `StreamSource`.
 #[derive(Drop)]
 pub struct StreamSink<W> {
     pub writer: W,
@@ -42,7 +46,7 @@ impl<W> StreamSink<W> {
 }
 
 impl<R: io::Read> Source for StreamSource<R> {
-    ghost giver = { λ s. record { left = None; is_ended = s.is_ended; faults = s.faults } };
+    ghost giver = { unknown_source };
 
     fn faults(&self) -> u64 {
         self.faults
@@ -52,7 +56,14 @@ impl<R: io::Read> Source for StreamSource<R> {
         self.is_ended
     }
 
-    fn read(&mut self, buffer: &mut [u8]) -> Read {
+    fn read(&mut self, buffer: &mut [u8]) -> Read
+        requires { 0 < length buffer.old }
+        ensures gives { ReadDoes result (unknown_source self.old) (unknown_source self.new)
+            buffer.new }
+        ensures later { self.old.faults ≤ self.new.faults }
+        ensures tells { ReadTells result (R.remaining self.old.reader) (R.remaining self.new.reader)
+            buffer.new }
+    {
         match self.reader.read(buffer) {
             Ok(0) => {
                 self.is_ended = true;
@@ -68,14 +79,20 @@ impl<R: io::Read> Source for StreamSource<R> {
 }
 
 impl<W: io::Write> Sink for StreamSink<W> {
-    ghost taker = { λ s. record { taken = None; faults = s.faults } };
+    ghost taker = { unknown_sink };
 
     fn faults(&self) -> u64 {
         self.faults
     }
 
     /// A writer that takes nothing has failed: to go on would be to wait for ever.
-    fn write(&mut self, bytes: &[u8]) -> Wrote {
+    fn write(&mut self, bytes: &[u8]) -> Wrote
+        requires { 0 < length bytes.now }
+        ensures takes { WriteDoes result (unknown_sink self.old) (unknown_sink self.new) bytes.now }
+        ensures later { self.old.faults ≤ self.new.faults }
+        ensures tells { WriteTells result (W.contents self.old.writer) (W.contents self.new.writer)
+            bytes.now }
+    {
         match self.writer.write(bytes) {
             Ok(count) if count > 0 => Wrote::Took(count),
             _ => {
@@ -85,7 +102,11 @@ impl<W: io::Write> Sink for StreamSink<W> {
         }
     }
 
-    fn flush(&mut self) -> Result<(), Failed> {
+    fn flush(&mut self) -> Result<(), Failed>
+        ensures sends { SendDoes result (unknown_sink self.old) (unknown_sink self.new) [] }
+        ensures later { self.old.faults ≤ self.new.faults }
+        ensures tells { Keeps (W.contents self.old.writer) (W.contents self.new.writer) }
+    {
         if self.writer.flush().is_err() {
             self.faults = raised(self.faults);
             return Err(Failed);
