@@ -6,8 +6,6 @@
 
 mod filters;
 mod laws;
-#[cfg(test)]
-mod tests;
 
 pub use filters::{Step, passes};
 pub use laws::steps_of_examples;

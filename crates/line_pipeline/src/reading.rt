@@ -5,7 +5,7 @@ ghost use Rattle.line_pipeline.specs.Live.{kind_of, kinds_of, left_by, item_of};
 
 use bytes::Bytes;
 use request_types::{ConnId, Item, ItemKind, Port};
-use open_index::{Auth, Handles, Resolved, resolve};
+use open_index::{Auth, Handles, Resolved, resolve_shared};
 use row_types::{List, Schema};
 use std::alloc::{AllocError, Global};
 
@@ -45,7 +45,7 @@ pub fn read_lines(
         ≡ left_by reader.now.schema.now reader.now.port handles.old auth.old lines.now) }
 {
     for line in lines {
-        let resolved = resolve(alloc, reader.schema, reader.port, handles, auth, line)?;
+        let resolved = resolve_shared(alloc, reader.schema, reader.port, handles, auth, line)?;
         let kind = kind_of(resolved);
         let conn = reader.conn;
         items.push(Item { conn, kind })?;

@@ -1,7 +1,8 @@
 -- What an id is opened for fits the schema, where the schema is valid.
-use Rattle.std.proofs.Common.{◌≡◌, ℕ, zero, suc, ◌+◌, ◌<◌, Bool, true, false, cond, List, [], ◌∷◌, ◌++◌, length, map, Option, Some, Ok, eqb, refl, sym, ap, subst, arith}
-use Rattle.std.specs.Prelude.{slice_get, not, ◌||◌, nat_eq, nat_lt, ◌==◌}
+use Rattle.std.proofs.Common.{◌≡◌, ℕ, zero, suc, ◌<◌, true, false, List, [], ◌∷◌, ◌++◌, length, map, Option, Some, Ok, eqb, refl, sym, ap, subst, arith}
+use Rattle.std.specs.Prelude.{slice_get, None, option_map, not, ◌||◌, nat_eq, nat_lt, ◌==◌}
 use Rattle.std.specs.List.{list_any, list_all}
+use Rattle.std.proofs.lemmas.Option.{none-some}
 use Rattle.std.proofs.lemmas.Bool.{ltb-true, eqb-false, ne_eqb}
 use Rattle.std.proofs.lemmas.List.Elements.{All-from_recursion}
 use Rattle.hs_token.specs.declared.tokens.Token.{Token}
@@ -15,57 +16,39 @@ use Rattle.request_types.specs.declared.codes.Code.TheVariants as refused
 use Rattle.open_index.specs.declared.handles.Handle.{Handle}
 use Rattle.open_index.specs.declared.handles.OpenColumn.{OpenColumn}
 use Rattle.request_types.specs.Refusal.{or_refuse}
+use Rattle.request_types.specs.Names.{table_named, index_named, column_named}
 use Rattle.open_index.specs.Tokens.{u32_at}
-use Rattle.open_index.specs.Open.{table_named, index_named, column_named, names_of, is_listed, column_onto, columns_onto, columns_of, part_of, filter_columns_of, lists_of, handle_by, handle_of, has_room, open_of}
+use Rattle.open_index.specs.Open.{numbered, table_at, index_at, column_at, names_of, is_listed, column_onto, columns_onto, columns_of, part_of, filter_columns_of, lists_of, handle_by, handle_of, has_room, open_of}
 use Rattle.open_index.specs.Find.{numbers}
 use Rattle.open_index.specs.Fits.{IsColumnOf, HandleFitsTable, HandleFits}
 use Rattle.open_index.proofs.Cases.{bind_ok, guard_ok, need_ok, refuse_ok, ok_same, some_same, and_true, or_false, not_true, some_at, all_get, all_push}
 use Rattle.open_index.proofs.ColumnFits.{AreOf}
 
--- An item that was found, at its place behind the number that the list begins with.
-abbrev FoundAt : {A : Type 0} → ℕ → List A → ℕ → A → Type 0
-FoundAt n xs number x = (k : ℕ) × (n + k ≡ number) × (slice_get xs k ≡ Some x)
+-- What was found by its number stands there.
+numbered_is : {A : Type 0} (xs : List A) (o : Option ℕ) (t : ℕ × A) → numbered xs o ≡ Some t → slice_get xs t.0 ≡ Some t.1
+numbered_is {A = A} xs None t e = absurd (none-some t e)
+numbered_is {A = A} xs (Some n) t e = item (slice_get xs n) refl e where
+  item : (found : Option A) → slice_get xs n ≡ found → option_map (λ (x : A). (n, x)) found ≡ Some t → slice_get xs t.0 ≡ Some t.1
+  item None at is = absurd (none-some t is)
+  item (Some x) at is = subst (λ (u : ℕ × A). slice_get xs u.0 ≡ Some u.1) (some_same (n, x) t is) at
 
-later : {A : Type 0} (n : ℕ) (y : A) (ys : List A) (number : ℕ) (x : A) → FoundAt (n + 1) ys number x → FoundAt n (y ∷ ys) number x
-later n y ys number x at = (suc at.0, omega (arith, at.1), at.2)
+table_is : (tables : List TableDef) (db name : Token) (t : ℕ × TableDef) → table_at tables db name ≡ Some t → slice_get tables t.0 ≡ Some t.1
+table_is tables tokens.Null name t e = absurd (none-some t e)
+table_is tables (tokens.Text db) tokens.Null t e = absurd (none-some t e)
+table_is tables (tokens.Text db) (tokens.Text name) t e = numbered_is tables (table_named tables db name) t e
 
--- The first item, or one of the rest.
-first_or : {B : Type 0} (P : B → Type 0) (b : Bool) (x y : B) (more : Option B) → P x → (more ≡ Some y → P y) → cond b (Some x) more ≡ Some y → P y
-first_or P true x y more here rest e = subst P (some_same x y e) here
-first_or P false x y more here rest e = rest e
+index_is : (indexes : List IndexDef) (name : Token) (i : ℕ × IndexDef) → index_at indexes name ≡ Some i → slice_get indexes i.0 ≡ Some i.1
+index_is indexes tokens.Null i e = absurd (none-some i e)
+index_is indexes (tokens.Text name) i e = numbered_is indexes (index_named indexes name) i e
 
-table_at : (n : ℕ) (tables : List TableDef) (db name : Token) (t : ℕ × TableDef) → table_named n tables db name ≡ Some t → FoundAt n tables t.0 t.1
-table_at n [] db name t e = absurd cc
-table_at n (d ∷ ds) db name t e =
-    first_or (λ (u : ℕ × TableDef). FoundAt n (d ∷ ds) u.0 u.1) _ (n, d) t (table_named (n + 1) ds db name) (0, omega arith, refl) (λ f. later n d ds t.0 t.1 (table_at (n + 1) ds db name t f)) e
+column_is : (columns : List Column) (name : List ℕ) (c : OpenColumn) → column_at columns name ≡ Some c → IsColumnOf columns c
+column_is columns name c e = item (numbered columns (column_named columns name)) refl e where
+  as_open : ℕ × Column → OpenColumn
+  as_open d = record { number = d.0; kind = (d.1).kind }
 
-index_at : (n : ℕ) (indexes : List IndexDef) (name : Token) (i : ℕ × IndexDef) → index_named n indexes name ≡ Some i → FoundAt n indexes i.0 i.1
-index_at n [] name i e = absurd cc
-index_at n (d ∷ ds) name i e =
-    first_or (λ (u : ℕ × IndexDef). FoundAt n (d ∷ ds) u.0 u.1) _ (n, d) i (index_named (n + 1) ds name) (0, omega arith, refl) (λ f. later n d ds i.0 i.1 (index_at (n + 1) ds name i f)) e
-
--- A column that was found, with its kind.
-abbrev ColumnAt : ℕ → List Column → OpenColumn → Type 0
-ColumnAt n columns c = (d : Column) × FoundAt n columns c.number d × (d.kind ≡ c.kind)
-
-later_column : (n : ℕ) (d : Column) (ds : List Column) (c : OpenColumn) → ColumnAt (n + 1) ds c → ColumnAt n (d ∷ ds) c
-later_column n d ds c at = (at.0, later n d ds c.number at.0 at.1, at.2)
-
-column_at : (n : ℕ) (columns : List Column) (name : List ℕ) (c : OpenColumn) → column_named n columns name ≡ Some c → ColumnAt n columns c
-column_at n [] name c e = absurd cc
-column_at n (d ∷ ds) name c e =
-    first_or (ColumnAt n (d ∷ ds)) _ (record { number = n; kind = d.kind }) c (column_named (n + 1) ds name) (d, (0, omega arith, refl), refl) (λ f. later_column n d ds c (column_at (n + 1) ds name c f)) e
-
--- From the first place on, the number is the place.
-from_start : {A : Type 0} (xs : List A) (number : ℕ) (x : A) → FoundAt 0 xs number x → slice_get xs number ≡ Some x
-from_start xs number x at =
-    let same : at.0 ≡ number = omega (arith, at.1) in
-    subst (λ (k : ℕ). slice_get xs k ≡ Some x) same at.2
-
-column_is : (columns : List Column) (name : List ℕ) (c : OpenColumn) → column_named 0 columns name ≡ Some c → IsColumnOf columns c
-column_is columns name c e =
-    let at = column_at 0 columns name c e in
-    some_at (λ (d : Column). d.kind ≡ c.kind) (slice_get columns c.number) at.0 (from_start columns c.number at.0 at.1) at.2
+  item : (found : Option (ℕ × Column)) → numbered columns (column_named columns name) ≡ found → option_map as_open found ≡ Some c → IsColumnOf columns c
+  item None at is = absurd (none-some c is)
+  item (Some d) at is = subst (IsColumnOf columns) (some_same (as_open d) c is) (some_at (λ (x : Column). x.kind ≡ (d.1).kind) (slice_get columns d.0) d.1 (numbered_is columns (column_named columns name) d at) refl)
 
 -- Columns of the table, none of them twice.
 pub record AreListed (columns : List Column) (found : List OpenColumn) : Type 0 where
@@ -91,7 +74,7 @@ distinct_push (d ∷ ds) c once none =
 onto_listed : (columns : List Column) (found more : List OpenColumn) (name : List ℕ) → AreListed columns found → column_onto columns found name ≡ Ok more → AreListed columns more
 unfolding column_onto
 onto_listed columns found more name listed e =
-    let c = bind_ok (or_refuse refused.Column (column_named 0 columns name)) _ more e in
+    let c = bind_ok (or_refuse refused.Column (column_at columns name)) _ more e in
     let test = guard_ok (is_listed found (c.0).number) refused.Column (Ok (found ++ c.0 ∷ [])) more c.2 in
     let is : AreListed columns (found ++ c.0 ∷ []) = record {
       all = all_push (IsColumnOf columns) found c.0 listed.all (column_is columns name c.0 (refuse_ok refused.Column _ c.0 c.1));
@@ -143,13 +126,13 @@ same_parts columns (n ∷ ns) = ap (λ (ms : List ℕ). n ∷ ms) (same_parts co
 handle_fits : (schema : Schema) (db name index : Token) (lists : List Token) (h : Handle) → IsValid schema → handle_of schema db name index lists ≡ Ok h → HandleFits schema h
 unfolding handle_of
 handle_fits schema db name index lists h valid e =
-    let t = bind_ok (or_refuse refused.Table (table_named 0 schema.tables db name)) _ h e in
-    let i = bind_ok (or_refuse refused.Index (index_named 0 (t.0).1.indexes index)) _ h t.2 in
+    let t = bind_ok (or_refuse refused.Table (table_at schema.tables db name)) _ h e in
+    let i = bind_ok (or_refuse refused.Index (index_at (t.0).1.indexes index)) _ h t.2 in
     let cs = bind_ok (lists_of (t.0).1.columns lists) _ h i.2 in
     let table = (t.0).1 in
-    let at = from_start schema.tables (t.0).0 table (table_at 0 schema.tables db name t.0 (refuse_ok refused.Table _ t.0 t.1)) in
+    let at = table_is schema.tables db name t.0 (refuse_ok refused.Table _ t.0 t.1) in
     let is_table : IsTable table = all_get IsTable schema.tables (t.0).0 table valid.tables at in
-    let place = from_start table.indexes (i.0).0 (i.0).1 (index_at 0 table.indexes index i.0 (refuse_ok refused.Index _ i.0 i.1)) in
+    let place = index_is table.indexes index i.0 (refuse_ok refused.Index _ i.0 i.1) in
     let is_index : IsIndex table.columns (i.0).1 = all_get (IsIndex table.columns) table.indexes (i.0).0 (i.0).1 is_table.indexes.each place in
     let fit = lists_fit table.columns lists cs.0 cs.1 in
     let parts : List OpenColumn = map (part_of table.columns) ((i.0).1).parts in

@@ -1,5 +1,5 @@
 -- Which open ids, and which answers to a line, fit a schema.
-use Rattle.std.specs.Prelude.{◌≡◌, ℕ, List, length, slice_get, IsSomeAnd, ⊤, nat_eq, true}
+use Rattle.std.specs.Prelude.{◌≡◌, ℕ, List, slice_get, IsSomeAnd, ⊤, nat_eq, true}
 use Rattle.std.specs.List.{All}
 use Rattle.std.specs.Map.{values_of}
 use Rattle.row_types.specs.declared.columns.Column.{Column}

@@ -1,10 +1,9 @@
 -- Opening an index: `P <indexid> <db> <table> <index> <columns> [<fcolumns>]`.
-use Rattle.std.specs.Prelude.{ℕ, ◌+◌, List, [], ◌∷◌, ◌++◌, length, map, slice_get, Option, Some, None, Result, Ok, Err, Bool, ◌==◌, ◌<◌, ◌^◌, ◌&&◌, ◌||◌, nat_eq, nat_lt, is_some, if◌then◌else◌}
+use Rattle.std.specs.Prelude.{ℕ, List, [], ◌∷◌, ◌++◌, length, map, slice_get, Option, Some, None, option_map, Result, Ok, Err, Bool, ◌==◌, ◌<◌, ◌^◌, ◌||◌, nat_lt, is_some, if◌then◌else◌}
 use Rattle.std.specs.List.{slice_split, list_any, All}
 use Rattle.std.specs.Ordering.{nat_cmp}
 use Rattle.std.specs.BTreeMap.{is_at, insert_entry}
 use Rattle.std.specs.Map.{lookup}
-use Rattle.std.specs.Cmp.Lexicographic.{pointwise}
 use Rattle.hs_token.specs.declared.tokens.Token.{Token}
 use Rattle.hs_token.specs.declared.tokens.Token.TheVariants.{Null, Text}
 use Rattle.row_types.specs.declared.columns.Column.{Column}
@@ -18,7 +17,8 @@ use Rattle.request_types.specs.declared.codes.Code.TheVariants as refused
 use Rattle.open_index.specs.declared.handles.Handle.{Handle}
 use Rattle.open_index.specs.declared.handles.OpenColumn.{OpenColumn}
 use Rattle.request_types.specs.Refusal.{◌>>=◌, or_refuse}
-use Rattle.open_index.specs.Tokens.{is_word, u32_at}
+use Rattle.request_types.specs.Names.{table_named, index_named, column_named}
+use Rattle.open_index.specs.Tokens.{u32_at}
 
 -- What an id stands for, if it is open.
 abbrev pub stands_for : List (ℕ × Handle) → ℕ → Option Handle
@@ -28,28 +28,27 @@ stands_for handles id = lookup (is_at (nat_cmp id)) handles
 abbrev pub opened : List (ℕ × Handle) → ℕ → Handle → List (ℕ × Handle)
 opened handles id handle = insert_entry nat_cmp handles id handle
 
--- Whether a name is this token's text.
-abbrev pub is_name : List ℕ → Token → Bool
-is_name name token = is_word name token
+-- What stands at a number that was found, beside the number.
+abbrev pub numbered : {A : Type 0} → List A → Option ℕ → Option (ℕ × A)
+numbered xs None = None
+numbered xs (Some n) = option_map (λ x. (n, x)) (slice_get xs n)
 
--- The first table with these two names, and its number, where the list begins with this number.
-abbrev pub table_named : ℕ → List TableDef → Token → Token → Option (ℕ × TableDef)
-table_named n [] db name = None
-table_named n (t ∷ ts) db name =
-    if is_name t.db db && is_name t.name name then Some (n, t) else table_named (n + 1) ts db name
+-- The first table with these two names, and its number. NULL is no name.
+abbrev pub table_at : List TableDef → Token → Token → Option (ℕ × TableDef)
+table_at tables Null name = None
+table_at tables (Text db) Null = None
+table_at tables (Text db) (Text name) = numbered tables (table_named tables db name)
 
 -- The first index of this name, and its number.
-abbrev pub index_named : ℕ → List IndexDef → Token → Option (ℕ × IndexDef)
-index_named n [] name = None
-index_named n (i ∷ is) name =
-    if is_name i.name name then Some (n, i) else index_named (n + 1) is name
+abbrev pub index_at : List IndexDef → Token → Option (ℕ × IndexDef)
+index_at indexes Null = None
+index_at indexes (Text name) = numbered indexes (index_named indexes name)
 
 -- The first column of this name, as an open column.
-abbrev pub column_named : ℕ → List Column → List ℕ → Option OpenColumn
-column_named n [] name = None
-column_named n (c ∷ cs) name =
-    if pointwise nat_eq c.name name then Some (record { number = n; kind = c.kind })
-    else column_named (n + 1) cs name
+abbrev pub column_at : List Column → List ℕ → Option OpenColumn
+column_at columns name = option_map as_open (numbered columns (column_named columns name)) where
+  as_open : ℕ × Column → OpenColumn
+  as_open c = record { number = c.0; kind = (c.1).kind }
 
 -- The names of a list: the pieces of the text between commas, and none of the empty text.
 abbrev pub names_of : List ℕ → List (List ℕ)
@@ -62,7 +61,7 @@ is_listed found number = list_any (λ (c : OpenColumn). c.number == number) foun
 
 -- One more column, unless the table has none of this name or the list has it already.
 unfoldable pub column_onto : List Column → List OpenColumn → List ℕ → Result (List OpenColumn) Code
-column_onto columns found name = or_refuse refused.Column (column_named 0 columns name) >>= λ c.
+column_onto columns found name = or_refuse refused.Column (column_at columns name) >>= λ c.
     if is_listed found c.number then Err refused.Column else Ok (found ++ c ∷ [])
 
 -- The columns that were found, and those of the names behind them.
@@ -108,8 +107,8 @@ handle_by t i cs = record {
 -- What an id will stand for: the index by its names, and the columns of its lists.
 unfoldable pub handle_of : Schema → Token → Token → Token → List Token → Result Handle Code
 handle_of schema db name index lists =
-    or_refuse refused.Table (table_named 0 schema.tables db name) >>= λ t.
-    or_refuse refused.Index (index_named 0 (t.1).indexes index) >>= λ i.
+    or_refuse refused.Table (table_at schema.tables db name) >>= λ t.
+    or_refuse refused.Index (index_at (t.1).indexes index) >>= λ i.
     lists_of (t.1).columns lists >>= λ cs. Ok (handle_by t i cs)
 
 -- At most so many ids are open at a time.

@@ -6,8 +6,8 @@ ghost use Rattle.open_index.specs.Find.{mod_word, mod_values, is_reading, change
 use crate::handles::OpenColumn;
 use crate::tokens::is_word;
 use crate::values::{deltas_of, values_of};
-use request_types::{Code, Fault, ModKind, ModSpec, Port};
 use hs_token::Token;
+use request_types::{Code, Fault, ModKind, ModSpec, Port};
 use row_types::{List, Value};
 use std::alloc::Global;
 

@@ -8,7 +8,7 @@
 //! | `<indexid> + <vlen> <v1>..<vn>` | an insert |
 //!
 //! `resolve` reads one line and answers the request, or the code of its first refusal from left to right; a line that is
-//! refused leaves the connection's open ids and its auth as they were. What a line means depends on the schema, the port,
+//! refused leaves the connection's open ids and its auth as they were. `resolve_shared` takes a line whose memory is shared. What a line means depends on the schema, the port,
 //! its secret and the connection's earlier lines, and never on the tables' rows. Carrying requests out is left to others.
 #![tactic(auto)]
 
@@ -28,6 +28,6 @@ mod values;
 
 pub use handles::{Handle, Handles, MOST_OPEN, OpenColumn, handles_new};
 pub use laws::{example_refusals, example_requests, example_states, schemas_that_fit};
-pub use lines::resolve;
+pub use lines::{resolve, resolve_shared};
 pub use request_types::{Code, InsertSpec, Request};
 pub use requests::{Auth, Resolved};

@@ -13,8 +13,8 @@ use crate::operations::request_of;
 use crate::requests::{Auth, Resolved};
 use crate::tokens::{is_word, u32_at};
 use bytes::Bytes;
-use request_types::{Code, Fault, Port};
 use hs_token::{Token, TokenFault, decode_shared};
+use request_types::{Code, Fault, Port};
 use row_types::{ByteText, Schema};
 use std::alloc::{AllocError, Global};
 
@@ -138,6 +138,29 @@ fn line_means(alloc: Global, context: &Context, line: &Bytes) -> Result<Meaning,
 /// writing port's. What is refused, and in which order, is `reads`: a refused line changes neither the open ids nor the
 /// auth, and its reply begins with the answered number. Want of memory changes neither, too.
 pub fn resolve(
+    alloc: Global,
+    schema: &Schema,
+    port: Port,
+    handles: &mut Handles,
+    auth: &mut Auth,
+    line: &[u8],
+) -> Result<Resolved, AllocError>
+    requires { IsNumbered schema.now }
+    ensures ok { IfOk result (λ resolved. (resolved, handles.new, auth.new)
+        ≡ reads schema.now port handles.old auth.old line.now) }
+    ensures err { OnErr result ((handles.new ≡ handles.old) × (auth.new ≡ auth.old)) }
+    // What is asked of the tables fits their schema, and so do the open ids behind the line.
+    ensures fits { IsValid schema.now → HandlesFit schema.now handles.old
+        → IfOk result (ResolvedFits schema.now) }
+    ensures handles_fit { IsValid schema.now → HandlesFit schema.now handles.old
+        → HandlesFit schema.now handles.new }
+{
+    let line = Bytes::from_vec(Vec::from_slice(alloc, line)?)?;
+    resolve_shared(alloc, schema, port, handles, auth, &line)
+}
+
+/// The same of a line whose memory is shared, of which no byte is copied that needn't be.
+pub fn resolve_shared(
     alloc: Global,
     schema: &Schema,
     port: Port,

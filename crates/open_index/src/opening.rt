@@ -2,58 +2,49 @@
 ghost use Rattle.std.specs.Prelude.{◌≡◌, ◌<◌, ◌^◌, length, map, IfOk, IfSome, option_map, ◌==◌};
 ghost use Rattle.std.specs.List.{All};
 ghost use Rattle.request_types.specs.Refusal.{Gives};
-ghost use Rattle.open_index.specs.Open.{IsNumbered, IsTableNumbered, table_named, index_named, column_named, names_of, is_listed, column_onto, columns_onto, columns_of, filter_columns_of, lists_of, part_of, handle_of, has_room, open_of};
+ghost use Rattle.open_index.specs.Open.{IsNumbered, IsTableNumbered, table_at, index_at, column_at, names_of, is_listed, column_onto, columns_onto, columns_of, filter_columns_of, lists_of, part_of, handle_of, has_room, open_of};
 
-use request_types::{Code, Fault};
 use crate::handles::{Handle, Handles, MOST_OPEN, OpenColumn};
-use crate::tokens::{is_word, u32_at};
+use crate::tokens::u32_at;
 use hs_token::Token;
+use request_types::{Code, Fault, column_named, index_named, table_named};
 use row_types::{Column, IndexDef, Kind, List, Schema, TableDef};
 use std::alloc::{AllocError, Global};
 
 /// The first table with these names, and its number.
-fn table_named<'s>(tables: &'s [TableDef], db: &Token, name: &Token) -> Option<(u32, &'s TableDef)>
+fn table_at<'s>(tables: &'s [TableDef], db: &Token, name: &Token) -> Option<(u32, &'s TableDef)>
     requires few { length tables.now < 2 ^ 32 }
     requires each { All IsTableNumbered tables.now }
-    ensures first { option_map (λ x. (x.0, x.1.now)) result
-        ≡ table_named 0 tables.now db.now name.now }
+    ensures first { option_map (λ x. (x.0, x.1.now)) result ≡ table_at tables.now db.now name.now }
     ensures numbered { IfSome result (λ x. IsTableNumbered x.1.now) }
 {
-    for (number, table) in tables.iter().enumerate() {
-        if is_word(db, table.db.as_slice()) && is_word(name, table.name.as_slice()) {
-            return Some((number as u32, table));
-        }
-    }
-    None
+    let (Token::Text(db), Token::Text(name)) = (db, name) else {
+        return None;
+    };
+    let number = table_named(tables, db.as_slice(), name.as_slice())?;
+    Some((number, &tables[number as usize]))
 }
 
 /// The first index of this name, and its number.
-fn index_named<'s>(indexes: &'s [IndexDef], name: &Token) -> Option<(u32, &'s IndexDef)>
+fn index_at<'s>(indexes: &'s [IndexDef], name: &Token) -> Option<(u32, &'s IndexDef)>
     requires { length indexes.now < 2 ^ 32 }
-    ensures { option_map (λ x. (x.0, x.1.now)) result ≡ index_named 0 indexes.now name.now }
+    ensures { option_map (λ x. (x.0, x.1.now)) result ≡ index_at indexes.now name.now }
 {
-    for (number, index) in indexes.iter().enumerate() {
-        if is_word(name, index.name.as_slice()) {
-            return Some((number as u32, index));
-        }
-    }
-    None
+    let Token::Text(name) = name else {
+        return None;
+    };
+    let number = index_named(indexes, name.as_slice())?;
+    Some((number, &indexes[number as usize]))
 }
 
 /// The first column of this name.
-fn column_named(columns: &[Column], name: &[u8]) -> Option<OpenColumn>
+fn column_at(columns: &[Column], name: &[u8]) -> Option<OpenColumn>
     requires { length columns.now < 2 ^ 32 }
-    ensures { result ≡ column_named 0 columns.now name.now }
+    ensures { result ≡ column_at columns.now name.now }
 {
-    for (number, column) in columns.iter().enumerate() {
-        if column.name.as_slice() == name {
-            return Some(OpenColumn {
-                number: number as u32,
-                kind: column.kind,
-            });
-        }
-    }
-    None
+    let number = column_named(columns, name)?;
+    let kind = columns[number as usize].kind;
+    Some(OpenColumn { number, kind })
 }
 
 /// The names between the commas of a text, and none of the empty text.
@@ -80,7 +71,7 @@ fn column_onto(columns: &[Column], found: &mut Vec<OpenColumn>, name: &[u8]) -> 
     ensures { Gives (λ _. found.new.items) result
         (column_onto columns.now found.old.items name.now) }
 {
-    let Some(column) = column_named(columns, name) else {
+    let Some(column) = column_at(columns, name) else {
         return Err(Fault::Refused(Code::Column));
     };
     if is_listed(found, column.number) {
@@ -194,10 +185,10 @@ fn handle_of(
     ensures { Gives (λ handle. handle) result
         (handle_of schema.now db.now name.now index.now lists.now) }
 {
-    let Some((table, def)) = table_named(schema.tables.as_slice(), db, name) else {
+    let Some((table, def)) = table_at(schema.tables.as_slice(), db, name) else {
         return Err(Fault::Refused(Code::Table));
     };
-    let Some((index, index_def)) = index_named(def.indexes.as_slice(), index) else {
+    let Some((index, index_def)) = index_at(def.indexes.as_slice(), index) else {
         return Err(Fault::Refused(Code::Index));
     };
     let all = def.columns.as_slice();

@@ -10,8 +10,8 @@ use crate::handles::{Handle, Handles, OpenColumn};
 use crate::parts::{count_at, filters_at, key_at, limit_at, within_at};
 use crate::tokens::is_word;
 use crate::values::values_of;
-use request_types::{Code, Fault, FindOp, FindSpec, InsertSpec, ModSpec, Port, Request};
 use hs_token::Token;
+use request_types::{Code, Fault, FindOp, FindSpec, InsertSpec, ModSpec, Port, Request};
 use row_types::List;
 use std::alloc::{AllocError, Global};
 

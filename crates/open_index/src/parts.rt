@@ -6,8 +6,8 @@ ghost use Rattle.open_index.specs.Find.{count_at, key_at, limit_at, part_at, lis
 use crate::handles::OpenColumn;
 use crate::tokens::{front_at, is_word, number_at, u32_at};
 use crate::values::{value_of, values_in, values_of};
-use request_types::{Code, Fault, FilterOp, FilterSpec, FindOp, InSpec};
 use hs_token::Token;
+use request_types::{Code, Fault, FilterOp, FilterSpec, FindOp, InSpec};
 use row_types::{List, RowKey};
 use std::alloc::Global;
 

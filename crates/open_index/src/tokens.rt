@@ -3,8 +3,8 @@ ghost use Rattle.std.specs.Prelude.{◌≡◌, IfOk, length};
 ghost use Rattle.request_types.specs.Refusal.{Gives};
 ghost use Rattle.open_index.specs.Tokens.{is_word, u32_at, i64_at, number_at, front_at};
 
-use request_types::{Code, Fault};
 use hs_token::{Token, parse_i64, parse_u32};
+use request_types::{Code, Fault};
 
 /// Whether a token is this text.
 pub(crate) fn is_word(token: &Token, word: &[u8]) -> bool

@@ -3,10 +3,10 @@ ghost use Rattle.std.specs.Prelude.{◌≡◌, ◌≤◌, length, IfOk};
 ghost use Rattle.request_types.specs.Refusal.{Gives};
 ghost use Rattle.open_index.specs.Values.{value_of, values_of, values_in, delta_of, deltas_of};
 
-use request_types::{Code, Fault};
 use crate::handles::OpenColumn;
 use crate::tokens::i64_at;
 use hs_token::{Token, parse_i64};
+use request_types::{Code, Fault};
 use row_types::{ByteText, Kind, List, Value};
 use std::alloc::Global;
 

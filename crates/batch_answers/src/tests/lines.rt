@@ -10,7 +10,7 @@ ghost use Rattle.batch_answers.specs.Examples.{people_columns, people_indexes, b
 use crate::{run_batch, worked_answers};
 use bytes::Bytes;
 use request_types::{Batch, ConnId, Item, ItemKind, Port, Replies};
-use open_index::{Auth, Handles, Resolved, handles_new, resolve, schemas_that_fit};
+use open_index::{Auth, Handles, Resolved, handles_new, resolve_shared, schemas_that_fit};
 use row_types::{ByteText, Column, IndexDef, IndexKind, Kind, List, Schema, TableDef, Value};
 use std::alloc::{AllocError, Global};
 use std::mem::replace;
@@ -149,7 +149,7 @@ fn kind_of(
         passed: false,
     };
     let line = Bytes::from_vec(Vec::from_slice(alloc, line)?)?;
-    match resolve(alloc, schema, Port::Writing, handles, &mut auth, &line)? {
+    match resolve_shared(alloc, schema, Port::Writing, handles, &mut auth, &line)? {
         Resolved::Reply(code) => Ok(ItemKind::Ready(code)),
         Resolved::Opened | Resolved::Authed => Ok(ItemKind::Ready(0)),
         Resolved::Ask(request) => Ok(ItemKind::Hs(request)),

@@ -1,6 +1,6 @@
 use Rattle.open_index.specs.declared.meanings.Meaning.TheVariants.{Opens, Asks}
 use Rattle.open_index.proofs.ReadsFit.{line_fits, opened_fit}
-use Rattle.open_index.proofs.lines.resolve.Goals as goal
+use Rattle.open_index.proofs.lines.resolve_shared.Goals as goal
 
 pub returns-in-Ok-Asks-clause-fits : goal.returns-in-Ok-Asks-clause-fits
 returns-in-Ok-Asks-clause-fits c valid fit =
