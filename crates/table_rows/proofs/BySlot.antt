@@ -2,9 +2,10 @@
 --     without_free, all_without, free_without, without_again      a slot without a row, and none that is taken out twice
 --     found, live_member, row_of_member      what a slot has
 --     without_put, live_put, put_back      an entry that comes and goes, or goes and comes
-use Rattle.std.proofs.Common.{◌≡◌, ℕ, Bool, true, false, cond, not, ◌||◌, List, [], ◌∷◌, find, Some, Contains, subst, sym, refl, ap, ◌∙◌, inl, inr}
+use Rattle.std.proofs.Common.{◌≡◌, ℕ, Bool, true, false, cond, not, ◌||◌, List, [], ◌∷◌, find, Some, None, Contains, subst, sym, refl, ap, ◌∙◌, inl, inr}
 use Rattle.std.specs.Prelude.{◌==◌}
 use Rattle.std.specs.List.{AllByRecursion}
+use Rattle.std.specs.Option.{option_map}
 use Rattle.std.specs.declared.cmp.Ordering.{Ordering}
 use Rattle.std.specs.declared.cmp.Ordering.TheVariants.{Less}
 use Rattle.std.specs.Ordering.{is_lt}
@@ -16,7 +17,7 @@ use Rattle.index_tree.proofs.Elements.{all_pass, all_weaker, all_members, contai
 use Rattle.index_tree.proofs.Ascending.{greater_back}
 use Rattle.row_types.specs.declared.values.Value.{Value}
 use Rattle.table_rows.specs.Entries.{Entry}
-use Rattle.table_rows.specs.Slots.{is_in, is_live, row_in, row_of, without}
+use Rattle.table_rows.specs.Slots.{is_in, is_live, row_in, row_of, row_if, without}
 use Rattle.table_rows.specs.Valid.{EachPair}
 use Rattle.table_rows.proofs.Passing.{others_all, any_false, none_any, any_member, filter_put, put_first, put_later, any_put}
 
@@ -55,6 +56,15 @@ found slot (e ∷ es) live = found_step slot e es (is_in slot e) refl (found slo
 
 pub live_member : (entries : List Entry) (e : Entry) → Contains entries e → is_live e.1 entries ≡ true
 live_member entries e has = any_member (is_in e.1) entries e has (same_slot e.1)
+
+-- that row, if there is one
+if_step : (slot : ℕ) (e : Entry) (es : List Entry) (b : Bool) → row_if slot es ≡ cond (is_live slot es) (Some (row_of slot es)) None → option_map (λ (entry : Entry). entry.0) (cond b (Some e) (find (is_in slot) es)) ≡ cond (b || is_live slot es) (Some (row_in (cond b (Some e) (find (is_in slot) es)))) None
+if_step slot e es true rest = refl
+if_step slot e es false rest = rest
+
+pub row_if_live : (slot : ℕ) (entries : List Entry) → row_if slot entries ≡ cond (is_live slot entries) (Some (row_of slot entries)) None
+row_if_live slot [] = refl
+row_if_live slot (e ∷ es) = if_step slot e es (is_in slot e) (row_if_live slot es)
 
 -- and where each has a slot of its own it is the only one
 pub row_of_member : (entries : List Entry) (e : Entry) → HaveOwnSlots entries → Contains entries e → row_of e.1 entries ≡ e.0

@@ -3,7 +3,7 @@
 --     vacant_there, vacant_here, live_there, row_there      what a slot has
 --     entries_put, entries_without, entries_replaced, entries_roomy      what a change makes of them
 --     walk_there      the order of another index
-use Rattle.std.proofs.Common.{◌≡◌, ℕ, ◌+◌, ◌<◌, true, false, List, ◌++◌, length, set, replicate, Option, Some, None, IsSome, IfSome, refl, ap, sym, subst, ◌∙◌, arith, length-append, get_or-set_same}
+use Rattle.std.proofs.Common.{◌≡◌, ℕ, ◌+◌, ◌<◌, Bool, true, false, cond, List, ◌++◌, length, set, replicate, Option, Some, None, IsSome, IfSome, refl, ap, sym, subst, ◌∙◌, arith, length-append, get_or-set_same}
 use Rattle.std.proofs.lemmas.Bool.{true≢false, ne_eqb}
 use Rattle.std.proofs.lemmas.List.{length-replicate}
 use Rattle.std.proofs.lemmas.Option.{slice_get-get_or, get_or_from_slice_get}
@@ -21,9 +21,9 @@ use Rattle.table_rows.proofs.CellOrder.{entry_cmp_total, apart_at_more}
 use Rattle.table_rows.proofs.KeptRows.{IsRowOf, count_kept, live_within, live_itself, vacant_within}
 use Rattle.table_rows.proofs.WalkChanges.{walk_ascends, walk_members, walk_rows, keyed_put, keyed_take, walk_put, walk_put_vacant, walk_has}
 use Rattle.table_rows.proofs.Neighbours.{own_slots}
-use Rattle.table_rows.specs.Slots.{IsVacant, is_in, is_live, row_of, without}
+use Rattle.table_rows.specs.Slots.{IsVacant, is_in, is_live, row_of, row_if, without}
 use Rattle.table_rows.proofs.Passing.{none_any}
-use Rattle.table_rows.proofs.BySlot.{HaveOwnSlots, found, live_member, row_of_member, without_free, without_put}
+use Rattle.table_rows.proofs.BySlot.{HaveOwnSlots, row_if_live, found, live_member, row_of_member, without_free, without_put}
 
 some_of : {X : Type 0} (o : Option X) → IsSome o → (x : X) × (o ≡ Some x)
 some_of None e = absurd cc
@@ -75,6 +75,18 @@ module _ (key : List ℕ) (slots : Slots) where
       by_row : (o : Option (List Value)) → row_at slots slot ≡ o → o ≡ None
       by_row None row = refl
       by_row (Some r) row = absurd (true≢false (sym (live_member (walk key slots) (r, slot) (walk_has key slots slot r row)) ∙ vacant.free))
+
+  -- the row of a slot that may have none
+  pub row_if_there : (slot : ℕ) → row_at slots slot ≡ row_if slot (walk key slots)
+  row_if_there slot = by_live (is_live slot (walk key slots)) refl ∙ sym (row_if_live slot (walk key slots))
+    where
+      none_there : is_live slot (walk key slots) ≡ false → (o : Option (List Value)) → row_at slots slot ≡ o → o ≡ None
+      none_there free None row = refl
+      none_there free (Some r) row = absurd (true≢false (sym (live_member (walk key slots) (r, slot) (walk_has key slots slot r row)) ∙ free))
+
+      by_live : (b : Bool) → is_live slot (walk key slots) ≡ b → row_at slots slot ≡ cond (is_live slot (walk key slots)) (Some (row_of slot (walk key slots))) None
+      by_live true live = live_there slot live ∙ sym (ap (λ (b : Bool). cond b (Some (row_of slot (walk key slots))) None) live)
+      by_live false free = none_there free (row_at slots slot) refl ∙ sym (ap (λ (b : Bool). cond b (Some (row_of slot (walk key slots))) None) free)
 
   module _ (keyed : IsKeyed key slots) where
     pub own_there : HaveOwnSlots (walk key slots)

@@ -34,4 +34,5 @@ pub mod Roomier
 pub mod Alone
 pub mod GoingBack
 pub mod PrimaryWalk
+pub mod KeyedRows
 pub mod Plays

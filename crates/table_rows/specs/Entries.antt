@@ -1,9 +1,10 @@
 -- The rows of a table in their slots, and in the order of their cells.
-use Rattle.std.specs.Prelude.{◌≡◌, ℕ, suc, List, [], ◌∷◌, map, get_or, Option, Some, None, slice_get, IsSome}
+use Rattle.std.specs.Prelude.{◌≡◌, ℕ, suc, Bool, List, [], ◌∷◌, map, get_or, Option, Some, None, slice_get, IsSome}
 use Rattle.std.specs.declared.cmp.Ordering.{Ordering}
 use Rattle.row_types.specs.declared.values.Value.{Value}
 use Rattle.row_types.specs.declared.values.Value.TheVariants.{Null}
-use Rattle.row_types.specs.Order.{key_cmp}
+use Rattle.std.specs.Ordering.{is_eq}
+use Rattle.row_types.specs.Order.{key_cmp, prefix_cmp}
 use Rattle.index_tree.specs.Ordered.{in_order}
 
 -- What each slot keeps, from slot 0 on. None is a vacant slot.
@@ -49,6 +50,10 @@ cell_at row column = get_or row column Null
 -- The values of a row at some columns.
 abbrev pub cells : List ℕ → List Value → List Value
 cells columns row = map (cell_at row) columns
+
+-- Whether a row has these values at the first of some columns.
+abbrev pub has_key : List ℕ → List Value → List Value → Bool
+has_key columns key row = is_eq (prefix_cmp (cells columns row) key)
 
 -- Entries compare by the cells of their rows at these columns.
 abbrev pub entry_cmp : List ℕ → Entry → Entry → Ordering

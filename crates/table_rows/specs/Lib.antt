@@ -16,6 +16,7 @@ pub mod Widths
 pub mod Table
 pub mod Inside
 pub mod Valid
+pub mod Named
 pub mod Undoing
 pub mod Database
 pub mod GoingBack

@@ -1,6 +1,7 @@
 -- Rows by their slots, and what a change makes of them.
 use Rattle.std.specs.Prelude.{◌≡◌, ℕ, ◌<◌, ◌==◌, Bool, false, not, List, [], Option, Some, None, filter, find}
 use Rattle.std.specs.List.{list_any}
+use Rattle.std.specs.Option.{option_map}
 use Rattle.index_tree.specs.Ordered.{with_item}
 use Rattle.row_types.specs.declared.values.Value.{Value}
 use Rattle.row_types.specs.declared.indexes.IndexDef.{IndexDef}
@@ -25,6 +26,10 @@ row_in (Some entry) = entry.0
 abbrev pub row_of : ℕ → List Entry → List Value
 row_of slot entries = row_in (find (is_in slot) entries)
 
+-- The row in a slot, if it has one.
+abbrev pub row_if : ℕ → List Entry → Option (List Value)
+row_if slot entries = option_map (λ (entry : Entry). entry.0) (find (is_in slot) entries)
+
 -- All entries but the one in this slot.
 abbrev pub without : ℕ → List Entry → List Entry
 without slot entries = filter (λ entry. not (is_in slot entry)) entries
@@ -45,6 +50,10 @@ is_live_in state table slot = is_live slot (entries_of state table)
 -- That row.
 abbrev pub row_at : State → ℕ → ℕ → List Value
 row_at state table slot = row_of slot (entries_of state table)
+
+-- The same, if it has one.
+abbrev pub row_found : State → ℕ → ℕ → Option (List Value)
+row_found state table slot = row_if slot (entries_of state table)
 
 -- The state with this row in this slot of a table, whatever it had before.
 abbrev pub with_row_at : State → ℕ → ℕ → List Value → State

@@ -89,7 +89,10 @@ impl Cut<Mark> for KeyCut<'_> {
             Ordering::Less => true,
             Ordering::Equal => match row_in(self.rows, mark.slot) {
                 None => false,
-                Some(row) => { stands(self.through, cmp_with_key(row, self.columns, self.key)) }
+                Some(row) => {
+                    let row = row.as_slice();
+                    stands(self.through, cmp_with_key(row, self.columns, self.key))
+                }
             },
             Ordering::Greater => false,
         }

@@ -31,8 +31,8 @@ pub(crate) fn dup_index(
     None
 }
 
-// Whether the index keeps the row away from one of the others. In a table that it keeps apart already the first row that
-// is alike is the only one.
+// Whether the index keeps the row away from one of the others. In a table that it keeps apart
+// already the first row that is alike is the only one.
 fn clashes(
     table: &OneTable,
     number: u32,

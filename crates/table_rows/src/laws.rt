@@ -22,7 +22,8 @@ pub fn worked_verdicts()
     ensures the_same_code { verdict_of (two_rows 9) 0
         (some_row 1 (values.Text (codes "ab")) 7) None ≡ Dup 1 }
     ensures null_twice { verdict_of (two_rows 255) 0 (some_row 3 values.Null 9) None ≡ Fine }
-    // In its own place a row meets itself in no index, and one that does not grow is never too large.
+    // In its own place a row meets itself in no index, and one that does not grow is never too
+    // large.
     ensures instead { verdict_of (two_rows 9) 0
         (some_row 2 (values.Text (codes "ab")) 7) (Some (slot_named 0)) ≡ Fine }
 {}

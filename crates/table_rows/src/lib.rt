@@ -1,17 +1,20 @@
-//! The rows of all tables of a schema: walked by any index, checked, changed in place, and changes taken back.
+//! The rows of all tables of a schema: walked by any index, checked, changed in place, and changes
+//! taken back.
 //!
 //! | Call | What it is for |
 //! |---|---|
-//! | `new`, `reserve` | empty tables; slots for more rows and room for their notes. Only these take memory |
-//! | `check_put` | whether a row may come in: NULL where it is forbidden, a clash in an index, want of space, or nothing |
+//! | `new`, `reserve` | empty tables; slots for more rows. Only these take memory |
+//! | `check_put` | what bars a row: a NULL, a clash in an index, want of space, or nothing |
 //! | `put`, `replace`, `delete` | a change, noted in an `UndoList` |
 //! | `undo_to` | takes back all changes since a mark |
-//! | `walk` | the rows of an index from a key on, up or down, by its parts and then the primary key, without a search a row |
-//! | `seek`, `step`, `row` | the same by slots, with a search a row, for walks between changes |
+//! | `rows`, `walk` | all rows; those of an index from a key on, up or down. No search a row |
+//! | `find_key`, `get`, `row` | the slot of a primary key; the row in a slot |
+//! | `seek`, `step` | a walk by slots, with a search a row, for walks between changes |
 //!
-//! A row is named by its slot, from the change that puts it there to the one that deletes it. Contracts see a table as
-//! the list of its rows, each beside its slot, ascending by primary key. Selecting rows is the work of `find_scan`, and
-//! what a batch of changes is on disk that of `change_set`.
+//! A row is named by its slot, from the change that puts it there to the one that deletes it.
+//! Contracts see a table as the list of its rows, each beside its slot, ascending by primary key.
+//! Selecting rows is the work of `find_scan`, and what a batch of changes is on disk that of
+//! `change_set`.
 //!
 //! Inside, a `RowStore` keeps the rows of one table, and a `RowOrder` an index of it:
 //!
@@ -20,9 +23,10 @@
 //!     by the first cell:   1, 3, 0            next(1) is 3, prev(1) is None
 //!     by the second cell:  3, 0, 1
 //!
-//! An index goes by its own cells and then by those of the primary key. It holds a mark of 12 bytes a row: the slot, and
-//! a digest of the row's first cell in that order, so that a search looks at a row only where digests are equal. Where a
-//! slot is vacant a put can't be refused, so that whatever was done can be undone.
+//! An index goes by its own cells and then by those of the primary key. It holds a mark of 12 bytes
+//! a row: the slot, and a digest of the row's first cell in that order, so that a search looks at a
+//! row only where digests are equal. Where a slot is vacant a put can't be refused, so that
+//! whatever was done can be undone.
 #![tactic(auto)]
 
 mod bound;
@@ -51,6 +55,7 @@ mod verdict;
 mod walk;
 
 pub use bound::Bound;
+pub use cells::has_key;
 pub use edge::Edge;
 pub use laws::{worked_changes, worked_verdicts};
 pub use slot_ref::SlotRef;

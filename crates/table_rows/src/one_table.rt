@@ -1,10 +1,13 @@
 //! The rows of one table, by their entries.
-ghost use Rattle.std.specs.Prelude.{◌≡◌, ◌+◌, ◌<◌, ◌≤◌, [], length, true, false, Option, Some, None, OnOk, OnErr, IfOk, IfSome, map};
+ghost use Rattle.std.specs.Prelude.{◌≡◌, ◌+◌, ◌<◌, ◌≤◌, [], length, true, false, Option, Some, None, OnOk, OnErr, IfOk, IfSome, map, option_copied};
 ghost use Rattle.row_types.specs.declared.tables.TableDef.{TableDef};
 ghost use Rattle.table_rows.specs.StoreWalks.{first_like, slot_in, IsNew};
 ghost use Rattle.table_rows.specs.Rows.{Rows};
-ghost use Rattle.table_rows.specs.Indexes.{primary_of, parts_of};
-ghost use Rattle.table_rows.specs.Slots.{IsVacant, is_live, row_of, without};
+ghost use Rattle.std.specs.List.{list_any};
+ghost use Rattle.row_types.specs.Valid.{is_primary};
+ghost use Rattle.row_types.specs.declared.indexes.IndexDef.{IndexDef};
+ghost use Rattle.table_rows.specs.Indexes.{primary_of, parts_of, parts_at};
+ghost use Rattle.table_rows.specs.Slots.{IsVacant, is_live, row_of, row_if, without};
 ghost use Rattle.table_rows.specs.Table.{Table, empty_table, with_room, with_row_in, without_in, parts_by, columns_by, walk_by};
 ghost use Rattle.table_rows.specs.Walks.{begun, gone_on, walked};
 ghost use Rattle.table_rows.specs.Widths.{room_for};
@@ -103,6 +106,14 @@ impl OneTable {
         self.store.row(slot)
     }
 
+    /// The row in a slot, if it has one.
+    pub(crate) fn get(&self, slot: u32) -> Option<&Row>
+        ensures { option_copied result ≡ row_if slot self.now.rows.entries }
+    {
+        let _ = self.store.count();
+        self.store.get(slot)
+    }
+
     /// Where the walk of an index begins.
     pub(crate) fn begin(&self, index: u32, edge: &Edge<RowKey>, down: bool) -> Option<u32>
         requires { index < length self.now.orders }
@@ -178,8 +189,8 @@ pub(crate) fn empty_tables(alloc: Global, defs: &[TableDef]) -> Result<Vec<OneTa
     Ok(tables)
 }
 
-// The parts of the primary index, which is the first of its kind.
-fn primary_of<'a>(indexes: &'a [IndexDef]) -> &'a [u32]
+/// The parts of the primary index, which is the first of its kind.
+pub(crate) fn primary_of<'a>(indexes: &'a [IndexDef]) -> &'a [u32]
     ensures { result.now ≡ primary_of indexes.now }
 {
     for index in indexes {
@@ -188,4 +199,19 @@ fn primary_of<'a>(indexes: &'a [IndexDef]) -> &'a [u32]
         }
     }
     &[]
+}
+
+/// The number of that index.
+pub(crate) fn primary_index(indexes: &[IndexDef]) -> u32
+    requires few { length indexes.now ≤ 16 }
+    requires some { list_any (λ (i : IndexDef). is_primary i.kind) indexes.now ≡ true }
+    ensures within { result < length indexes.now }
+    ensures parts { parts_at indexes.now result ≡ primary_of indexes.now }
+{
+    for (number, index) in indexes.iter().enumerate() {
+        if index.kind == IndexKind::Primary {
+            return number as u32;
+        }
+    }
+    unreachable!()
 }

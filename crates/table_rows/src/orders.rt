@@ -16,7 +16,8 @@ use index_tree::{Cut, Place, Tree};
 use row_types::{Row, RowKey, Value};
 use std::alloc::{AllocError, Global};
 
-/// The columns of an index, the columns that its walk goes by, and the marks of all rows in that order.
+/// The columns of an index, the columns that its walk goes by, and the marks of all rows in that
+/// order.
 #[derive(Drop)]
 pub(crate) struct RowOrder {
     own: Vec<u32>,
@@ -57,7 +58,8 @@ impl RowOrder {
         self.tree.reserve(slots - self.tree.len() as u32)
     }
 
-    /// Lets in the row that is to stand in a slot, where the order is that of the rows in all other slots.
+    /// Lets in the row that is to stand in a slot, where the order is that of the rows in all other
+    /// slots.
     pub(crate) fn enter(&mut self, rows: &[Option<Row>], slot: u32, row: &Row)
         requires slot { slot < length rows.now }
         requires order { IsOrder (set rows.now slot None) self.old }
@@ -80,7 +82,8 @@ impl RowOrder {
         self.tree.remove_at(place);
     }
 
-    /// Lets in another row in place of the one in a slot. Where their cells are equal nothing is touched.
+    /// Lets in another row in place of the one in a slot. Where their cells are equal nothing is
+    /// touched.
     pub(crate) fn shift(&mut self, rows: &[Option<Row>], slot: u32, row: &Row)
         requires live { IsLive rows.now slot }
         requires order { IsOrder rows.now self.old }
@@ -195,7 +198,8 @@ impl RowOrder {
     fn first_at(&self, rows: &[Option<Row>], key: &[Value], through: bool) -> Option<u32>
         requires { IsOrder rows.now self.now }
         ensures { result ≡ slot_in
-            (find (is_past self.now.whole.items key.now through) (walk self.now.whole.items rows.now)) }
+            (find (is_past self.now.whole.items key.now through)
+            (walk self.now.whole.items rows.now)) }
     {
         let columns = self.whole.as_slice();
         self.first_behind(&KeyCut::of(rows, columns, key, through))

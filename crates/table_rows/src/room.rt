@@ -25,7 +25,8 @@ pub(crate) fn make_room(
     ensures keeps_room { vec_capacity vacant.old ≤ vec_capacity vacant.new }
 
     // What there is room for then.
-    ensures room { OnOk result (AllByRecursion (HasRoom (length rows.old.items + more)) orders.new) }
+    ensures room { OnOk result
+        (AllByRecursion (HasRoom (length rows.old.items + more)) orders.new) }
     ensures rows_room { OnOk result (vec_len rows.new + more ≤ vec_capacity rows.new) }
     ensures vacant_room { OnOk result (length rows.old.items + more ≤ vec_capacity vacant.new) }
 {

@@ -1,5 +1,5 @@
 //! The rows of one table.
-ghost use Rattle.std.specs.Prelude.{◌≡◌, ◌-◌, ◌<◌, ◌≤◌, [], ◌∷◌, ◌++◌, length, replicate, set, Option, Some, None, OnOk, OnErr, IsOk, IfSome};
+ghost use Rattle.std.specs.Prelude.{◌≡◌, ◌-◌, ◌<◌, ◌≤◌, [], ◌∷◌, ◌++◌, length, replicate, set, Option, Some, None, OnOk, OnErr, IsOk, IfSome, option_copied};
 
 use crate::cuts::row_in;
 use crate::edge::Edge;
@@ -75,7 +75,8 @@ impl RowStore {
             (self.new.slots ≡ self.old.slots ++ replicate (n - vacancies self.old.slots) None) }
         ensures room { OnOk result (n ≤ vacancies self.new.slots) }
 
-        // Where so many are vacant no memory is asked for. It is wanting too where a slot would not fit 32 bits.
+        // Where so many are vacant no memory is asked for. It is wanting too where a slot would not
+        // fit 32 bits.
         ensures at_hand { n ≤ vacancies self.old.slots → IsOk result × (self.new ≡ self.old) }
         ensures refused { OnErr result (self.new ≡ self.old) }
     {
@@ -160,6 +161,13 @@ impl RowStore {
         }
     }
 
+    /// The row under a slot, if there is one.
+    pub fn get(&self, slot: u32) -> Option<&Row>
+        ensures { option_copied result ≡ row_at self.now.slots slot }
+    {
+        row_in(self.rows.as_slice(), slot)
+    }
+
     /// The first row of an index at or after the edge.
     pub fn first_from(&self, index: u32, edge: &Edge<RowKey>) -> Option<u32>
         requires { index < length self.now.orders }
@@ -180,7 +188,8 @@ impl RowStore {
         self.orders[index as usize].last_to(self.rows.as_slice(), edge)
     }
 
-    /// The first row of an index with the cells of this one at the index's own columns. Takes no memory.
+    /// The first row of an index with the cells of this one at the index's own columns. Takes no
+    /// memory.
     pub fn first_like(&self, index: u32, row: &Row) -> Option<u32>
         requires { index < length self.now.orders }
         ensures first { result ≡ slot_in
@@ -210,19 +219,22 @@ impl RowStore {
         self.orders[index as usize].prev(self.rows.as_slice(), slot)
     }
 
-    /// The rows of an index from a key on, all that begin with it, or, `through` them, those behind. Takes no memory.
+    /// The rows of an index from a key on, all that begin with it, or, `through` them, those
+    /// behind. Takes no memory.
     pub fn up<'a>(&'a self, index: u32, key: &'a [Value], through: bool) -> StoreWalk<'a>
         requires { index < length self.now.orders }
-        ensures { result ≡ upward (columns_of self.now index) key.now through (walk_of self.now index) }
+        ensures { result
+            ≡ upward (columns_of self.now index) key.now through (walk_of self.now index) }
     {
         self.orders[index as usize].up(self.rows.as_slice(), key, through)
     }
 
-    /// The rows of an index up to a key, the last one first: those before it, or, `through` them, all that begin with it
-    /// too. Takes no memory.
+    /// The rows of an index up to a key, the last one first: those before it, or, `through` them,
+    /// all that begin with it too. Takes no memory.
     pub fn down<'a>(&'a self, index: u32, key: &'a [Value], through: bool) -> StoreWalk<'a>
         requires { index < length self.now.orders }
-        ensures { result ≡ downward (columns_of self.now index) key.now through (walk_of self.now index) }
+        ensures { result
+            ≡ downward (columns_of self.now index) key.now through (walk_of self.now index) }
     {
         self.orders[index as usize].down(self.rows.as_slice(), key, through)
     }

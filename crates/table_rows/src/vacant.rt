@@ -23,12 +23,13 @@ pub(crate) fn add_slots(rows: &mut Vec<Option<Row>>, vacant: &mut Vec<u32>, more
     }
 }
 
-/// Takes a vacant slot off the list. It looks from the list's end, where whatever undoes changes finds it: slots come
-/// back to it there in the order in which they went.
+/// Takes a vacant slot off the list. It looks from the list's end, where whatever undoes changes
+/// finds it: slots come back to it there in the order in which they went.
 pub(crate) fn drop_slot(rows: &[Option<Row>], vacant: &mut Vec<u32>, slot: u32)
     requires slot { IsVacant rows.now slot }
     requires vacant { AreVacant rows.now vacant.old.items }
-    ensures vacant { (row : List Value) → AreVacant (set rows.now slot (Some row)) vacant.new.items }
+    ensures vacant { (row : List Value) →
+        AreVacant (set rows.now slot (Some row)) vacant.new.items }
     ensures capacity { vec_capacity vacant.new ≡ vec_capacity vacant.old }
 {
     for back in 0..vacant.len() {
