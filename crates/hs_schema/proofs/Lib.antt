@@ -10,3 +10,4 @@ pub mod IndexAgain
 pub mod SchemaAgain
 pub mod FromLeft
 pub mod LeftToRight
+pub mod Lengths

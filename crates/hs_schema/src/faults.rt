@@ -7,7 +7,8 @@ use thiserror::Error;
 /// The rules that a table line may break.
 #[derive(Clone, Copy, Debug, PartialEq, Eq)]
 pub enum SchemaRule {
-    /// A name isn't one or is that of no column, or the primary index isn't named PRIMARY, or another is.
+    /// A name isn't one or is that of no column, or the primary index isn't named PRIMARY, or
+    /// another is.
     BadName,
     /// A token is missing or isn't what its place asks for.
     BadKind,
@@ -20,8 +21,8 @@ pub enum SchemaRule {
 /// Why a table wasn't added.
 #[derive(Debug, Drop, Error)]
 pub enum SchemaFault {
-    /// The line's fault: the first rule that is broken, and the numbers of the table and of the token,
-    /// both from 0. A missing token has the number of tokens.
+    /// The line's fault: the first rule that is broken, and the numbers of the table and of the
+    /// token, both from 0. A missing token has the number of tokens.
     #[error("table {table} breaks the rule {rule:?} at token {token}")]
     Broken {
         rule: SchemaRule,

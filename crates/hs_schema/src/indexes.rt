@@ -20,7 +20,8 @@ pub(crate) fn indexes_of(
     line: &[Token],
 ) -> Result<Vec<IndexDef>, LineFault>
     requires { length columns.now ≤ 64 }
-    ensures exact { Gives (λ indexes. indexes.items) result (indexes_at 16 columns.now [] line.now) }
+    ensures exact { Gives (λ indexes. indexes.items) result
+        (indexes_at 16 columns.now [] line.now) }
     // So the line's end is the place of a token, too.
     ensures end { OnOk result (length line.now < 2 ^ 32) }
 {

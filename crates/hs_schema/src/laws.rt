@@ -1,5 +1,5 @@
 //! A schema's text is read again; and table lines written out, with what they say.
-ghost use Rattle.std.specs.Prelude.{◌≡◌, ◌+◌, ◌<◌, ℕ, take, false, length, List, [], ◌∷◌, ◌++◌, Some, Ok, codes};
+ghost use Rattle.std.specs.Prelude.{◌≡◌, ◌+◌, ◌<◌, ◌^◌, ℕ, take, false, length, List, [], ◌∷◌, ◌++◌, Some, Ok, codes};
 ghost use Rattle.hs_token.specs.declared.tokens.Token.{Token};
 ghost use Rattle.hs_line.specs.Lines.{lines_of};
 ghost use Rattle.row_types.specs.declared.tables.Schema.{Schema};
@@ -18,19 +18,27 @@ pub fn texts_are_read_again()
         → with_lines [] (lines_of (spelled schema)) ≡ Some schema.tables }
 {}
 
+/// The text of a valid schema has fewer than 2 ^ 32 bytes.
+pub fn texts_are_short()
+    ensures { (schema : Schema) → IsValid schema → length (spelled schema) < 2 ^ 32 }
+{}
+
 /// A line is read only as a valid table of a new name, and each such table is read from its line.
 pub fn lines_say_the_valid_tables()
     ensures valid { (tables : List TableDef) (line : List Token) (t : TableDef)
-        → table_at tables line ≡ Ok t → IsTable t × (has_table tables t.db t.name ≡ false) × (length tables < 64) }
+        → table_at tables line ≡ Ok t
+        → IsTable t × (has_table tables t.db t.name ≡ false) × (length tables < 64) }
     ensures again { (tables : List TableDef) (t : TableDef) → IsTable t
-        → has_table tables t.db t.name ≡ false → length tables < 64 → table_at tables (table_tokens t) ≡ Ok t }
+        → has_table tables t.db t.name ≡ false → length tables < 64
+        → table_at tables (table_tokens t) ≡ Ok t }
 {}
 
 /// Lines with the same tokens up to that of the first broken rule break the same rule first.
 pub fn lines_are_read_from_the_left()
     ensures { (tables : List TableDef) (line other : List Token) (rule : SchemaRule) (token : ℕ)
         → table_at tables line ≡ broken rule token → token < length line
-        → take (token + 1) line ≡ take (token + 1) other → table_at tables other ≡ broken rule token }
+        → take (token + 1) line ≡ take (token + 1) other
+        → table_at tables other ≡ broken rule token }
 {}
 
 /// A line, the table that it says, and the line of that table.
@@ -45,10 +53,12 @@ pub fn example_breaches()
     ensures second_time { table_at (people ∷ []) people_line ≡ broken DuplicateName 2 }
     ensures no_column { table_at [] people_start ≡ broken BadKind 3 }
     ensures no_index { table_at [] (people_start ++ people_columns) ≡ broken NoPrimary 18 }
-    ensures column_behind_indexes { table_at [] (people_line ++ word (codes "c") ∷ []) ≡ broken BadKind 30 }
+    ensures column_behind_indexes { table_at [] (people_line ++ word (codes "c") ∷ [])
+        ≡ broken BadKind 30 }
     ensures column_cut { table_at [] (people_start ++ word (codes "c") ∷ word (codes "id") ∷ [])
         ≡ broken BadKind 5 }
     // Of two rules at one token the kind comes first.
     ensures null_and_unknown { table_at [] (people_start ++ people_columns ++ word (codes "i")
-        ∷ word (codes "PRIMARY") ∷ word (codes "primary") ∷ word (codes "nobody,name") ∷ []) ≡ broken BadKind 21 }
+        ∷ word (codes "PRIMARY") ∷ word (codes "primary") ∷ word (codes "nobody,name") ∷ [])
+        ≡ broken BadKind 21 }
 {}

@@ -40,7 +40,8 @@ fn push_columns(
     tokens: &mut Vec<Token>,
     columns: &[Column],
 ) -> Result<(), AllocError>
-    ensures { OnOk result (tokens.new.items ≡ tokens.old.items ++ flat_map column_tokens columns.now) }
+    ensures { OnOk result (tokens.new.items
+        ≡ tokens.old.items ++ flat_map column_tokens columns.now) }
 {
     for column in columns {
         push_column(alloc, tokens, column)?;
@@ -119,7 +120,8 @@ fn push_index(
     columns: &[Column],
     index: &IndexDef,
 ) -> Result<(), AllocError>
-    ensures { OnOk result (tokens.new.items ≡ tokens.old.items ++ index_tokens columns.now index.now) }
+    ensures { OnOk result (tokens.new.items
+        ≡ tokens.old.items ++ index_tokens columns.now index.now) }
 {
     tokens.push(Token::Text(Bytes::from_static(b"i")))?;
     tokens.push(text_token(alloc, index.name.as_slice())?)?;
