@@ -37,3 +37,17 @@ fn a_text_is_read_and_spelled_again(rt: HostRuntime) -> Result<(), Fail> {
     }
     Ok(())
 }
+
+#[test]
+fn a_line_that_breaks_a_rule_is_not_told_as_want_of_memory(rt: HostRuntime) -> Result<(), Fail> {
+    let alloc = rt.alloc();
+    for line in [b"tables".as_slice(), b"table\td\tt", b"table\td\tt\tc\tk"] {
+        let tokens = decode_line(alloc, line)?;
+        let answer = empty(alloc).add_table(alloc, &tokens);
+        assert!(rt;
+            matches!(answer, Err(SchemaFault::Broken { .. })),
+            "{line:?}"
+        );
+    }
+    Ok(())
+}

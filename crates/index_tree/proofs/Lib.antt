@@ -8,12 +8,10 @@ pub mod Found
 pub mod InOrder
 mod Evened
 mod Joined
-pub mod Lookups
 pub mod Members
 pub mod Removed
 mod Searched
 mod Shaped
-pub mod Slots
 mod Places
 mod Rooms
 mod Spotted

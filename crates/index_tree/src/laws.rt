@@ -1,4 +1,5 @@
-//! What holds of the words of the contracts alone: examples at the items 1, 3 and 5, and of items in any total order.
+//! What holds of the words of the contracts alone: examples at the items 1, 3 and 5, and of items
+//! in any total order.
 ghost use Rattle.std.specs.Prelude.{◌≡◌, ℕ, Bool, List, [], ◌∷◌, not};
 ghost use Rattle.std.specs.Ordering.{nat_cmp};
 ghost use Rattle.index_tree.specs.Parts.{IsParted, first_place, last_place};

@@ -25,8 +25,6 @@ mod place;
 mod pool;
 mod shifts;
 mod spot;
-#[cfg(test)]
-mod tests;
 mod tree;
 mod walk;
 

@@ -72,7 +72,8 @@ impl<'a, T: Copy> Walk<'a, T> {
 
     /// The next item, or None at the end.
     pub fn next(&mut self) -> Option<T>
-        ensures { MatchOption result (self.old ≡ self.new × self.new ≡ []) (λ item. self.old ≡ item ∷ self.new) }
+        ensures { MatchOption result (self.old ≡ self.new × self.new ≡ [])
+            (λ item. self.old ≡ item ∷ self.new) }
     {
         let (left, rest) = at_hand(self.left, self.rest, self.down);
         let (item, behind) = if self.down {

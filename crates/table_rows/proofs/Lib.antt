@@ -1,7 +1,6 @@
 pub mod CellOrder
 pub mod KeptRows
 pub mod Neighbours
-pub mod NewRows
 pub mod SlotLists
 pub mod WalkChanges
 pub mod WalkedRows

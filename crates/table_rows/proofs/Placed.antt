@@ -37,7 +37,7 @@ pub new_when_placed : (def : TableDef) (row : List Value) (others : List Entry) 
 new_when_placed def row others primary placed = new_when_apart def.indexes row others primary (dup_none def.indexes row others placed.no_dup)
 
 -- the table's other entries are valid by themselves
-pub valid_without : (def : TableDef) (rows : Rows) (slot : ℕ) → AreValidRows def rows → AreValidRows def (record { entries = without slot rows.entries; room = rows.room })
+pub valid_without : (def : TableDef) (rows : Rows) (slot : ℕ) → AreValidRows def rows → AreValidRows def (record rows { entries = without slot rows.entries })
 valid_without def rows slot valid = let test = λ (e : Entry). not (is_in slot e) in record {
   whole = all_kept (λ (e : Entry). IsWhole def.columns e.0) test rows.entries valid.whole;
   ascending = ascending_kept (entry_cmp (primary_of def.indexes)) test rows.entries valid.ascending;
@@ -51,7 +51,7 @@ pub parted_without : (def : TableDef) (rows : Rows) (slot : ℕ) (row : List Val
 parted_without def rows slot row valid = parted_below (entry_cmp (primary_of def.indexes)) (entry_cmp_total (primary_of def.indexes)) (row, slot) (without slot rows.entries) (valid_without def rows slot valid).ascending
 
 -- a row that stands among them was new
-pub new_when_valid : (def : TableDef) (rows : Rows) (slot : ℕ) (row : List Value) → AreValidRows def rows → AreValidRows def (record { entries = with_row def.indexes slot row rows.entries; room = rows.room }) → IsNew (primary_of def.indexes) row (without slot rows.entries)
+pub new_when_valid : (def : TableDef) (rows : Rows) (slot : ℕ) (row : List Value) → AreValidRows def rows → AreValidRows def (record rows { entries = with_row def.indexes slot row rows.entries }) → IsNew (primary_of def.indexes) row (without slot rows.entries)
 new_when_valid def rows slot row valid after =
     let columns = primary_of def.indexes in
     let cmp = entry_cmp columns in
@@ -69,7 +69,7 @@ module _ (def : TableDef) (rows : Rows) (slot : ℕ) (row : List Value) (primary
   unique_with index apart pairs =
       pairs_put (λ (a b : Entry). meets index a.0 b ≡ false) (λ a b none. sym (meets_back index a b) ∙ none) (is_below (entry_cmp (primary_of def.indexes)) (row, slot)) (row, slot) (without slot rows.entries) others_parted apart pairs
 
-  pub valid_with : slot < rows.room → AreValidRows def (record { entries = with_row def.indexes slot row rows.entries; room = rows.room })
+  pub valid_with : slot < rows.room → AreValidRows def (record rows { entries = with_row def.indexes slot row rows.entries })
   valid_with within =
       let rest = valid_without def rows slot valid in
       let cmp = entry_cmp (primary_of def.indexes) in
@@ -87,7 +87,7 @@ module _ (def : TableDef) (rows : Rows) (slot : ℕ) (row : List Value) (primary
 pub live_within : (def : TableDef) (rows : Rows) (slot : ℕ) → AreValidRows def rows → is_live slot rows.entries ≡ true → slot < rows.room
 live_within def rows slot valid live = all_members (λ (e : Entry). e.1 < rows.room) rows.entries (row_of slot rows.entries, slot) valid.within (found slot rows.entries live)
 
-pub valid_room : (def : TableDef) (rows : Rows) (room : ℕ) → rows.room ≤ room → AreValidRows def rows → AreValidRows def (record { entries = rows.entries; room = room })
+pub valid_room : (def : TableDef) (rows : Rows) (room : ℕ) → rows.room ≤ room → AreValidRows def rows → AreValidRows def (record rows { room = room })
 valid_room def rows room wider valid = record {
   whole = valid.whole;
   ascending = valid.ascending;

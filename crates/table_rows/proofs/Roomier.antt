@@ -69,7 +69,7 @@ valid_rows_roomier [] (x ∷ xs) ys valid more = absurd valid
 valid_rows_roomier (d ∷ ds) [] ys valid more = absurd valid
 valid_rows_roomier (d ∷ ds) (x ∷ xs) [] valid more = absurd more
 valid_rows_roomier (d ∷ ds) (x ∷ xs) (y ∷ ys) valid more =
-    (subst (λ (es : List Entry). AreValidRows d (record { entries = es; room = y.room })) (sym more.0.0) (valid_room d x y.room more.0.1 valid.0), valid_rows_roomier ds xs ys valid.1 more.1)
+    (subst (λ (es : List Entry). AreValidRows d (record y { entries = es })) (sym more.0.0) (valid_room d x y.room more.0.1 valid.0), valid_rows_roomier ds xs ys valid.1 more.1)
 
 total_rows_roomier : (xs ys : List Rows) → AllZip AreRoomier xs ys → sum_by (λ (r : Rows). entries_size r.entries) ys ≡ sum_by (λ (r : Rows). entries_size r.entries) xs
 total_rows_roomier [] [] more = refl

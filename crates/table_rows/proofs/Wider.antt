@@ -23,7 +23,7 @@ use Rattle.table_rows.proofs.Placed.{valid_room}
 
 -- the table's rows in so many slots
 abbrev pub roomy : State → ℕ → ℕ → Rows
-roomy state table room = record { entries = entries_of state table; room = room }
+roomy state table room = record (rows_of state table) { room = room }
 
 pub widened_total : (state : State) (table : ℕ) → table < length state.tables → (room : ℕ) → total (with_rows state table (roomy state table room)) ≡ total state
 widened_total state table within room =

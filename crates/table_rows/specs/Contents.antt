@@ -23,4 +23,4 @@ walk_of store index = walk (columns_of store index) store.slots
 
 -- The same store with this in a slot.
 abbrev pub with_slot : Contents → ℕ → Option (List Value) → Contents
-with_slot store slot holds = record { key = store.key; orders = store.orders; slots = set store.slots slot holds }
+with_slot store slot holds = record store { slots = set store.slots slot holds }

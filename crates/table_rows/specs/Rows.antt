@@ -52,8 +52,9 @@ room_of state table = (rows_of state table).room
 -- The state with other rows in this table.
 abbrev pub with_rows : State → ℕ → Rows → State
 with_rows state table rows =
-    record { schema = state.schema; bytes_max = state.bytes_max; tables = set state.tables table rows }
+    record state { tables = set state.tables table rows }
 
 -- The same, in as many slots.
 abbrev pub with_entries : State → ℕ → List Entry → State
-with_entries state table entries = with_rows state table (record { entries = entries; room = room_of state table })
+with_entries state table entries =
+    with_rows state table (record (rows_of state table) { entries = entries })

@@ -36,7 +36,7 @@ empty_table indexes = record { key = primary_of indexes; orders = parts_of index
 -- The table with other entries in as many slots.
 abbrev pub with_these : Table → List Entry → Table
 with_these table entries =
-    record { key = table.key; orders = table.orders; rows = record { entries = entries; room = table.rows.room } }
+    record table { rows = record table.rows { entries = entries } }
 
 -- The table with this row in this slot, whatever it had before.
 abbrev pub with_row_in : Table → ℕ → List Value → Table
@@ -50,7 +50,7 @@ without_in table slot = with_these table (without slot table.rows.entries)
 -- The same table in other slots.
 abbrev pub with_room : Table → ℕ → Table
 with_room table room =
-    record { key = table.key; orders = table.orders; rows = record { entries = table.rows.entries; room = room } }
+    record table { rows = record table.rows { room = room } }
 
 -- The columns of an index.
 abbrev pub parts_by : Table → ℕ → List ℕ

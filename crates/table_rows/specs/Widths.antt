@@ -3,7 +3,7 @@ use Rattle.std.specs.Prelude.{◌≡◌, ℕ, ◌+◌, ◌≤◌, length, map, m
 use Rattle.std.specs.List.{AllZip}
 use Rattle.row_types.specs.declared.tables.TableDef.{TableDef}
 use Rattle.row_types.specs.declared.tables.Schema.{Schema}
-use Rattle.table_rows.specs.Rows.{Rows, State, no_rows, with_rows, rows_of, entries_of, room_of}
+use Rattle.table_rows.specs.Rows.{Rows, State, no_rows, with_rows, rows_of, room_of}
 
 -- A state in which no table has a row or a slot.
 abbrev pub empty_state : Schema → ℕ → State
@@ -17,11 +17,11 @@ room_for more rows = max rows.room (length rows.entries + more)
 -- The same state, in which so many more rows find a slot in this table.
 abbrev pub with_slots : State → ℕ → ℕ → State
 with_slots state table more =
-    with_rows state table (record { entries = entries_of state table; room = room_for more (rows_of state table) })
+    with_rows state table (record (rows_of state table) { room = room_for more (rows_of state table) })
 
 -- The same state but for more slots in this table.
 pub record IsWidened (table : ℕ) (before after : State) : Type 0 where
-  pub rows : after ≡ with_rows before table (record { entries = entries_of before table; room = room_of after table })
+  pub rows : after ≡ with_rows before table (record (rows_of before table) { room = room_of after table })
   pub room : room_of before table ≤ room_of after table
 
 -- The same rows in as many slots or more.

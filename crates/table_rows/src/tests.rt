@@ -6,15 +6,15 @@ use std::test::Fail;
 use table::{begin, row, try_put};
 
 #[test]
-fn two_hundred_rows_find_memory(rt: HostRuntime) -> Result<(), Fail> {
+fn a_thousand_rows_find_memory(rt: HostRuntime) -> Result<(), Fail> {
     let alloc = rt.alloc();
     let mut tables = begin(alloc, 100_000)?;
     let mut undo = UndoList::list_new(alloc);
-    for id in 0..200 {
+    for id in 0..1000 {
         let new = row(alloc, id, 7)?;
         assert!(rt; try_put(&mut tables, new, &mut undo)? == Verdict::Fine);
     }
-    assert_eq!(rt; tables.count(0), 200);
+    assert_eq!(rt; tables.count(0), 1000);
     Ok(())
 }
 
