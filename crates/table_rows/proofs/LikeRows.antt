@@ -11,7 +11,7 @@ use Rattle.index_tree.specs.Ordered.{IsAscending, IsClosedDown}
 use Rattle.index_tree.specs.Parts.{IsParted}
 use Rattle.index_tree.proofs.Ascending.{ascending_parted}
 use Rattle.index_tree.proofs.Elements.{all_weaker}
-use Rattle.table_rows.specs.Entries.{Slots, Entry, row_at, cells, entry_cmp, walk}
+use Rattle.table_rows.specs.Entries.{Slots, Entry, row_under, cells, entry_cmp, walk}
 use Rattle.table_rows.specs.StoreWalks.{is_like, first_like, slot_in, IsKeyed}
 use Rattle.table_rows.specs.declared.mark.Mark.{Mark}
 use Rattle.table_rows.specs.Cuts.{is_before, line_at}
@@ -79,7 +79,7 @@ module _ (own key : List ℕ) (row : List Value) where
   -- a slot that was found first, if its row has the row's cells
   abbrev pub if_same : Slots → Option ℕ → Option ℕ
   if_same slots None = None
-  if_same slots (Some slot) = cond (is_same own row (row_at slots slot)) (Some slot) None
+  if_same slots (Some slot) = cond (is_same own row (row_under slots slot)) (Some slot) None
 
   if_like_same : (slots : Slots) (xs : List Entry) (test : Entry → Bool) → AllByRecursion (IsRowOf slots) xs → slot_in (if_like (find test xs)) ≡ if_same slots (slot_in (find test xs))
   if_like_same slots [] test rows = refl

@@ -11,7 +11,7 @@ use Rattle.index_tree.specs.Contents.{one_before}
 use Rattle.index_tree.specs.Ordered.{IsAscending}
 use Rattle.index_tree.proofs.Elements.{some_is_none}
 use Rattle.index_tree.proofs.Found.{drop_at, take_at}
-use Rattle.table_rows.specs.Entries.{Slots, Entry, row_at, entry_cmp}
+use Rattle.table_rows.specs.Entries.{Slots, Entry, row_under, entry_cmp}
 use Rattle.table_rows.specs.StoreWalks.{foremost, behind, in_front}
 use Rattle.table_rows.proofs.CellOrder.{entry_cmp_total}
 use Rattle.table_rows.proofs.KeptRows.{IsRowOf}
@@ -34,10 +34,10 @@ own_slots columns slots (x ∷ xs) ascending rows = (others xs ascending.0 rows.
     less_is_not : Less ≡ Equal → ⊥
     less_is_not e = cc
 
-    same_row : (e : Entry) → row_at slots e.1 ≡ Some e.0 → e.1 ≡ x.1 → x.0 ≡ e.0
-    same_row e row same = same_Some x.0 e.0 (sym rows.0 ∙ ap (row_at slots) (sym same) ∙ row)
+    same_row : (e : Entry) → row_under slots e.1 ≡ Some e.0 → e.1 ≡ x.1 → x.0 ≡ e.0
+    same_row e row same = same_Some x.0 e.0 (sym rows.0 ∙ ap (row_under slots) (sym same) ∙ row)
 
-    no_tie : (e : Entry) → entry_cmp columns x e ≡ Less → row_at slots e.1 ≡ Some e.0 → e.1 ≡ x.1 → ⊥
+    no_tie : (e : Entry) → entry_cmp columns x e ≡ Less → row_under slots e.1 ≡ Some e.0 → e.1 ≡ x.1 → ⊥
     no_tie e less row same =
         less_is_not (sym less ∙ ap (λ (r : List Value). entry_cmp columns x (r, e.1)) (sym (same_row e row same)) ∙ tied_itself (entry_cmp_total columns) x)
 

@@ -19,7 +19,7 @@ use Rattle.index_tree.proofs.Found.{first_at_key}
 use Rattle.index_tree.proofs.InOrder.{length-in_order}
 use Rattle.index_tree.proofs.Removed.{in_order_removed}
 use Rattle.index_tree.proofs.Through.{map_removed}
-use Rattle.table_rows.specs.Entries.{Slots, Entry, kept, vacancies, row_at, IsLive, cells, entry_cmp, walk}
+use Rattle.table_rows.specs.Entries.{Slots, Entry, kept, vacancies, row_under, IsTaken, cells, entry_cmp, walk}
 use Rattle.table_rows.specs.StoreWalks.{IsKeyed, behind, in_front, slot_in}
 use Rattle.table_rows.specs.declared.mark.Mark.{Mark}
 use Rattle.table_rows.specs.Cuts.{is_before, line_at}
@@ -32,7 +32,7 @@ use Rattle.table_rows.proofs.DigestOrder.{same_digest}
 use Rattle.table_rows.proofs.MarkLists.{Agree, ahead_agrees, opposites_agree, parted_marks, put_marks, first_place_agrees, marked_at}
 use Rattle.table_rows.proofs.WalkChanges.{walk_ascends, walk_rows, walk_has, walk_put}
 
-row_elsewhere : (slots : Slots) (slot n : ℕ) (row : List Value) → row_at (set slots slot None) n ≡ Some row → row_at slots n ≡ Some row
+row_elsewhere : (slots : Slots) (slot n : ℕ) (row : List Value) → row_under (set slots slot None) n ≡ Some row → row_under slots n ≡ Some row
 row_elsewhere [] slot n row there = there
 row_elsewhere (holds ∷ slots) zero zero row there = absurd (some_is_none row (sym there))
 row_elsewhere (holds ∷ slots) zero (suc n) row there = there
@@ -46,14 +46,14 @@ vacant_one (None ∷ slots) (suc slot) within = omega arith
 vacant_one (Some row ∷ slots) (suc slot) within = vacant_one slots slot (omega (arith, within))
 
 -- the row in a live slot
-pub live_row : (slots : Slots) (slot : ℕ) → IsLive slots slot → (row : List Value) × (row_at slots slot ≡ Some row)
-live_row slots slot live = by_row (row_at slots slot) refl live
+pub live_row : (slots : Slots) (slot : ℕ) → IsTaken slots slot → (row : List Value) × (row_under slots slot ≡ Some row)
+live_row slots slot live = by_row (row_under slots slot) refl live
   where
-    by_row : (o : Option (List Value)) → row_at slots slot ≡ o → IsSome o → (row : List Value) × (row_at slots slot ≡ Some row)
+    by_row : (o : Option (List Value)) → row_under slots slot ≡ o → IsSome o → (row : List Value) × (row_under slots slot ≡ Some row)
     by_row None is some = absurd (true≢false (sym some))
     by_row (Some row) is some = (row, is)
 
-pub live_slot : (slots : Slots) (slot : ℕ) (row : List Value) → row_at slots slot ≡ Some row → IsLive slots slot
+pub live_slot : (slots : Slots) (slot : ℕ) (row : List Value) → row_under slots slot ≡ Some row → IsTaken slots slot
 live_slot slots slot row live = ap is_some live
 
 module _ (columns : List ℕ) where
@@ -98,7 +98,7 @@ module _ (columns : List ℕ) where
       put_marks columns (is_below (entry_cmp columns) (row, slot)) (is_before (line_at slots columns (cells columns row) false)) (row, slot) (walk columns (set slots slot None)) (below_agrees slots row slot (walk columns (set slots slot None)) (others_rows slots slot))
       ∙ ap (marks_in columns) (sym (walk_put columns slots slot within row keyed))
 
-  module _ (slots : Slots) (slot : ℕ) (row : List Value) (live : row_at slots slot ≡ Some row) (keyed : IsKeyed columns slots) where
+  module _ (slots : Slots) (slot : ℕ) (row : List Value) (live : row_under slots slot ≡ Some row) (keyed : IsKeyed columns slots) where
     -- where the mark is
     pub place_in_walk : (k : ℕ) × (slice_get (walk columns slots) k ≡ Some (row, slot))
     place_in_walk = place_of_member (walk columns slots) (row, slot) (walk_has columns slots slot row live)
@@ -120,8 +120,8 @@ module _ (columns : List ℕ) where
         by_entry None is e = absurd (some_is_none slot (sym e))
         by_entry (Some (r, s)) is e =
             let same : s ≡ slot = same_Some s slot e in
-            let held : row_at slots s ≡ Some r = all_at (IsRowOf slots) (walk columns slots) k (r, s) (walk_rows columns slots) is in
-            let same_row : r ≡ row = same_Some r row (sym held ∙ ap (row_at slots) same ∙ live) in
+            let held : row_under slots s ≡ Some r = all_at (IsRowOf slots) (walk columns slots) k (r, s) (walk_rows columns slots) is in
+            let same_row : r ≡ row = same_Some r row (sym held ∙ ap (row_under slots) same ∙ live) in
             rw (same, same_row) refl
 
     -- a row let go

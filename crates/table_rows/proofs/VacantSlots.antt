@@ -6,7 +6,7 @@ use Rattle.std.proofs.lemmas.List.Edits.{length-remove}
 use Rattle.std.proofs.lemmas.List.Sums.{sum_by_push, sum_by-remove, sum_by-cons}
 use Rattle.std.proofs.lemmas.Option.{get_or_from_slice_get}
 use Rattle.row_types.specs.declared.values.Value.{Value}
-use Rattle.table_rows.specs.Entries.{Slots, vacancies, row_at, IsVacant}
+use Rattle.table_rows.specs.Entries.{Slots, vacancies, row_under, IsFree}
 use Rattle.table_rows.specs.StoreInside.{vacancy, times_vacant, AreVacant}
 use Rattle.table_rows.proofs.KeptRows.{vacancies_put, vacancies_take, vacancies_replaced, live_within, vacant_within}
 
@@ -23,13 +23,13 @@ other_none t s other = cond-false _ 1 0 (ne_eqb t s other)
 count_push : (t s : ℕ) (vs : List ℕ) → count_by (nat_eq t) (vs ++ s ∷ []) ≡ count_by (nat_eq t) vs + same_slot t s
 count_push t s vs = sum_by_push (λ (x : ℕ). cond (nat_eq t x) 1 0) vs s
 
-vacancy_none : (slots : Slots) (s : ℕ) → 0 < times_vacant slots s → IsVacant slots s
+vacancy_none : (slots : Slots) (s : ℕ) → 0 < times_vacant slots s → IsFree slots s
 vacancy_none [] s above = absurd (omega arith)
 vacancy_none (None ∷ slots) zero above = refl
 vacancy_none (Some row ∷ slots) zero above = absurd (omega arith)
 vacancy_none (holds ∷ slots) (suc s) above = vacancy_none slots s above
 
-vacant_once : (slots : Slots) (s : ℕ) → IsVacant slots s → times_vacant slots s ≡ 1
+vacant_once : (slots : Slots) (s : ℕ) → IsFree slots s → times_vacant slots s ≡ 1
 vacant_once slots s vacant = ap vacancy (get_or_from_slice_get slots s None (Some []) vacant)
 
 filled_at : (slots : Slots) (s : ℕ) (holds : Option (List Value)) → s < length slots → times_vacant (set slots s holds) s ≡ vacancy holds
@@ -39,7 +39,7 @@ filled_elsewhere : (slots : Slots) (s : ℕ) (holds : Option (List Value)) (t : 
 filled_elsewhere slots s holds t other = ap vacancy (get_or-set_other slots s t holds (Some []) other)
 
 -- a list whose slots are those of another and one vacant slot more is right once that slot has a row
-pub one_filled : (slots : Slots) (s : ℕ) (row : List Value) (vs ws : List ℕ) → AreVacant slots ws → IsVacant slots s → ((t : ℕ) → count_by (nat_eq t) ws ≡ count_by (nat_eq t) vs + same_slot t s) → length ws ≡ length vs + 1 → AreVacant (set slots s (Some row)) vs
+pub one_filled : (slots : Slots) (s : ℕ) (row : List Value) (vs ws : List ℕ) → AreVacant slots ws → IsFree slots s → ((t : ℕ) → count_by (nat_eq t) ws ≡ count_by (nat_eq t) vs + same_slot t s) → length ws ≡ length vs + 1 → AreVacant (set slots s (Some row)) vs
 one_filled slots s row vs ws are vacant more longer = record { each = each; count = omega (arith, are.count, longer, vacancies_put slots s row vacant) }
   where
     by_case : (t : ℕ) → (t ≡ s) ⊎ (t ≡ s → ⊥) → count_by (nat_eq t) vs ≡ times_vacant (set slots s (Some row)) t
@@ -53,7 +53,7 @@ one_filled slots s row vs ws are vacant more longer = record { each = each; coun
     each t = by_case t (cases_eq t s)
 
 -- the last of the vacant slots is vacant
-pub last_vacant : (slots : Slots) (vs : List ℕ) (s : ℕ) → AreVacant slots (vs ++ s ∷ []) → IsVacant slots s
+pub last_vacant : (slots : Slots) (vs : List ℕ) (s : ℕ) → AreVacant slots (vs ++ s ∷ []) → IsFree slots s
 last_vacant slots vs s are = vacancy_none slots s (omega (arith, are.each s, count_push s s vs, same_one s s refl))
 
 -- and is given out
@@ -61,17 +61,17 @@ pub last_filled : (slots : Slots) (vs : List ℕ) (s : ℕ) (row : List Value) �
 last_filled slots vs s row are = one_filled slots s row vs (vs ++ s ∷ []) are (last_vacant slots vs s are) (λ t. count_push t s vs) (length_push vs s)
 
 -- or one at a place
-pub place_filled : (slots : Slots) (ws : List ℕ) (k s : ℕ) (row : List Value) → AreVacant slots ws → IsVacant slots s → k < length ws → get_or ws k 0 ≡ s → AreVacant (set slots s (Some row)) (remove ws k)
+pub place_filled : (slots : Slots) (ws : List ℕ) (k s : ℕ) (row : List Value) → AreVacant slots ws → IsFree slots s → k < length ws → get_or ws k 0 ≡ s → AreVacant (set slots s (Some row)) (remove ws k)
 place_filled slots ws k s row are vacant within there =
     one_filled slots s row (remove ws k) ws are vacant
     (λ t. sym (ap (λ (x : ℕ). count_by (nat_eq t) (remove ws k) + same_slot t x) (sym there) ∙ sum_by-remove (λ (x : ℕ). cond (nat_eq t x) 1 0) ws k 0 within))
     (sym (length-remove ws k within))
 
 -- a slot that is vacated comes last
-pub one_vacated : (slots : Slots) (s : ℕ) (row : List Value) (vs : List ℕ) → AreVacant slots vs → row_at slots s ≡ Some row → AreVacant (set slots s None) (vs ++ s ∷ [])
+pub one_vacated : (slots : Slots) (s : ℕ) (row : List Value) (vs : List ℕ) → AreVacant slots vs → row_under slots s ≡ Some row → AreVacant (set slots s None) (vs ++ s ∷ [])
 one_vacated slots s row vs are live = record { each = each; count = omega (arith, are.count, length_push vs s, vacancies_take slots s row live) }
   where
-    live_none : (slots : Slots) (s : ℕ) → row_at slots s ≡ Some row → times_vacant slots s ≡ 0
+    live_none : (slots : Slots) (s : ℕ) → row_under slots s ≡ Some row → times_vacant slots s ≡ 0
     live_none [] s live = refl
     live_none (None ∷ slots) zero live = absurd cc
     live_none (Some old ∷ slots) zero live = refl
@@ -88,10 +88,10 @@ one_vacated slots s row vs are live = record { each = each; count = omega (arith
     each t = by_case t (cases_eq t s)
 
 -- another row in a live slot changes nothing
-pub one_replaced : (slots : Slots) (s : ℕ) (old row : List Value) (vs : List ℕ) → AreVacant slots vs → row_at slots s ≡ Some old → AreVacant (set slots s (Some row)) vs
+pub one_replaced : (slots : Slots) (s : ℕ) (old row : List Value) (vs : List ℕ) → AreVacant slots vs → row_under slots s ≡ Some old → AreVacant (set slots s (Some row)) vs
 one_replaced slots s old row vs are live = record { each = each; count = are.count ∙ sym (vacancies_replaced slots s old row live) }
   where
-    same_vacancy : (slots : Slots) (s t : ℕ) → row_at slots s ≡ Some old → times_vacant (set slots s (Some row)) t ≡ times_vacant slots t
+    same_vacancy : (slots : Slots) (s t : ℕ) → row_under slots s ≡ Some old → times_vacant (set slots s (Some row)) t ≡ times_vacant slots t
     same_vacancy [] s t live = refl
     same_vacancy (None ∷ slots) zero t live = absurd cc
     same_vacancy (Some first ∷ slots) zero zero live = refl
@@ -139,7 +139,7 @@ none_counted s (v ∷ vs) nowhere =
     omega (arith, sum_by-cons (λ (x : ℕ). cond (nat_eq s x) 1 0) v vs, here, none_counted s vs (λ k within. nowhere (suc k) (omega (arith, within))))
 
 -- so a vacant slot is somewhere
-pub vacant_somewhere : (slots : Slots) (vs : List ℕ) (s : ℕ) → AreVacant slots vs → IsVacant slots s → ((k : ℕ) → k < length vs → get_or vs k 0 ≡ s → ⊥) → ⊥
+pub vacant_somewhere : (slots : Slots) (vs : List ℕ) (s : ℕ) → AreVacant slots vs → IsFree slots s → ((k : ℕ) → k < length vs → get_or vs k 0 ≡ s → ⊥) → ⊥
 vacant_somewhere slots vs s are vacant nowhere =
     let e : 0 ≡ 1 = sym (none_counted s vs nowhere) ∙ are.each s ∙ vacant_once slots s vacant in
     absurd (omega (arith, e))

@@ -9,7 +9,7 @@ use Rattle.index_tree.proofs.Apart.{apart_to_front, apart_to_middle}
 use Rattle.index_tree.proofs.Elements.{all_append, all_weaker, contains_first, place_of_member}
 use Rattle.index_tree.proofs.InOrder.{all_in_order, ascending_in_order, in_order_middle, in_order_members}
 use Rattle.index_tree.proofs.Removed.{in_order_removed, removed_is_kept}
-use Rattle.table_rows.specs.Entries.{Slots, Entry, kept, row_at, IsVacant, entry_cmp, walk}
+use Rattle.table_rows.specs.Entries.{Slots, Entry, kept, row_under, IsFree, entry_cmp, walk}
 use Rattle.table_rows.specs.StoreWalks.{IsNew, IsKeyed}
 use Rattle.table_rows.proofs.CellOrder.{entry_cmp_total, apart_from_new}
 use Rattle.table_rows.proofs.Neighbours.{own_slots, others_front, others_rest}
@@ -51,7 +51,7 @@ module _ (columns : List ℕ) where
         ∙ in_order_middle (entry_cmp columns) (entry_cmp_total columns) (before slots slot) (row, slot) (after slots slot) apart
         ∙ ap (λ (es : List Entry). with_item (entry_cmp columns) (row, slot) (in_order (entry_cmp columns) es)) (sym (kept_take slots slot within))
 
-  module _ (slots : Slots) (slot : ℕ) (row : List Value) (live : row_at slots slot ≡ Some row) where
+  module _ (slots : Slots) (slot : ℕ) (row : List Value) (live : row_under slots slot ≡ Some row) where
     within_of : slot < length slots
     within_of = live_within slots slot row live
 
@@ -90,7 +90,7 @@ module _ (columns : List ℕ) where
         walk_put slots slot within_of other (keyed_put slots slot within_of other (keyed_take keyed) new) ∙ ap (with_item (entry_cmp columns) (other, slot)) (walk_take keyed)
 
   -- at a vacant slot, where nothing is to be let go first
-  pub walk_put_vacant : (slots : Slots) (slot : ℕ) (row : List Value) → IsVacant slots slot → IsKeyed columns slots → IsNew columns row (kept slots) → walk columns (set slots slot (Some row)) ≡ with_item (entry_cmp columns) (row, slot) (walk columns slots)
+  pub walk_put_vacant : (slots : Slots) (slot : ℕ) (row : List Value) → IsFree slots slot → IsKeyed columns slots → IsNew columns row (kept slots) → walk columns (set slots slot (Some row)) ≡ with_item (entry_cmp columns) (row, slot) (walk columns slots)
   walk_put_vacant slots slot row vacant keyed new =
       let same = vacant_itself slots slot vacant in
       let within = vacant_within slots slot vacant in

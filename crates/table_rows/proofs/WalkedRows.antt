@@ -8,7 +8,7 @@ use Rattle.std.specs.Ordering.{is_gt}
 use Rattle.row_types.specs.declared.values.Value.{Value}
 use Rattle.row_types.specs.Order.{prefix_cmp}
 use Rattle.index_tree.proofs.Elements.{all_kept, filter_agree}
-use Rattle.table_rows.specs.Entries.{Slots, Entry, IsLive, cells, walk}
+use Rattle.table_rows.specs.Entries.{Slots, Entry, IsTaken, cells, walk}
 use Rattle.table_rows.specs.StoreWalks.{is_from, is_to}
 use Rattle.table_rows.specs.Walked.{low_edge, high_edge, upward, downward, row_or_empty, entry_under, entries_under}
 use Rattle.table_rows.specs.declared.mark.Mark.{Mark}
@@ -28,13 +28,13 @@ read_back slots (x ∷ xs) rows =
     let first : entry_under slots x.1 ≡ x = ap (λ (o : Option (List Value)). (row_or_empty o, x.1)) rows.0 in
     rw (first, read_back slots xs rows.1) refl
 
-live_of : (slots : Slots) (xs : List Entry) → AllByRecursion (IsRowOf slots) xs → AllByRecursion (IsLive slots) (slots_in xs)
+live_of : (slots : Slots) (xs : List Entry) → AllByRecursion (IsRowOf slots) xs → AllByRecursion (IsTaken slots) (slots_in xs)
 live_of slots [] rows = tt
 live_of slots (x ∷ xs) rows = (ap is_some rows.0, live_of slots xs rows.1)
 
 -- slots that are those of entries with their rows have rows
-pub live_slots : (slots : Slots) (under : List ℕ) (xs : List Entry) → under ≡ slots_in xs → AllByRecursion (IsRowOf slots) xs → AllByRecursion (IsLive slots) under
-live_slots slots under xs same rows = subst (AllByRecursion (IsLive slots)) (sym same) (live_of slots xs rows)
+pub live_slots : (slots : Slots) (under : List ℕ) (xs : List Entry) → under ≡ slots_in xs → AllByRecursion (IsRowOf slots) xs → AllByRecursion (IsTaken slots) under
+live_slots slots under xs same rows = subst (AllByRecursion (IsTaken slots)) (sym same) (live_of slots xs rows)
 
 twice_not : (b : Bool) → not (not b) ≡ b
 twice_not true = refl

@@ -14,12 +14,12 @@ abbrev pub order_of : Contents → ℕ → List ℕ
 order_of store index = get_or store.orders index []
 
 -- The columns that its walk goes by: those of the index, then those of the primary key.
-abbrev pub columns_of : Contents → ℕ → List ℕ
-columns_of store index = order_of store index ++ store.key
+abbrev pub walk_columns : Contents → ℕ → List ℕ
+walk_columns store index = order_of store index ++ store.key
 
 -- All entries in the order of an index.
-abbrev pub walk_of : Contents → ℕ → List Entry
-walk_of store index = walk (columns_of store index) store.slots
+abbrev pub store_walk : Contents → ℕ → List Entry
+store_walk store index = walk (walk_columns store index) store.slots
 
 -- The same store with this in a slot.
 abbrev pub with_slot : Contents → ℕ → Option (List Value) → Contents

@@ -32,16 +32,16 @@ vacancies (None ∷ slots) = suc (vacancies slots)
 vacancies (Some row ∷ slots) = vacancies slots
 
 -- The row in a slot, and None where the slot is vacant or is none of these.
-abbrev pub row_at : Slots → ℕ → Option (List Value)
-row_at slots slot = get_or slots slot None
+abbrev pub row_under : Slots → ℕ → Option (List Value)
+row_under slots slot = get_or slots slot None
 
 -- The slot has a row.
-abbrev pub IsLive : Slots → ℕ → Type 0
-IsLive slots slot = IsSome (row_at slots slot)
+abbrev pub IsTaken : Slots → ℕ → Type 0
+IsTaken slots slot = IsSome (row_under slots slot)
 
 -- The slot is one of these, and has no row.
-abbrev pub IsVacant : Slots → ℕ → Type 0
-IsVacant slots slot = slice_get slots slot ≡ Some None
+abbrev pub IsFree : Slots → ℕ → Type 0
+IsFree slots slot = slice_get slots slot ≡ Some None
 
 -- The value of a row at a column, which is NULL where the row is too short.
 abbrev pub cell_at : List Value → ℕ → Value

@@ -8,7 +8,7 @@ use Rattle.row_types.specs.declared.values.Value.{Value}
 use Rattle.row_types.specs.Order.{key_cmp, prefix_cmp}
 use Rattle.table_rows.specs.declared.orders.RowOrder.{RowOrder}
 use Rattle.table_rows.specs.declared.store.RowStore.TheInside.{Inside}
-use Rattle.table_rows.specs.Entries.{Slots, Entry, vacancies, cells, row_at, walk}
+use Rattle.table_rows.specs.Entries.{Slots, Entry, vacancies, cells, row_under, walk}
 use Rattle.table_rows.specs.StoreWalks.{IsKeyed, IsNew}
 use Rattle.table_rows.specs.declared.mark.Mark.{Mark}
 use Rattle.table_rows.specs.Marks.{marks_in, slot_marked}
@@ -31,7 +31,7 @@ is_past columns values through entry = not (is_ahead_of columns values through e
 -- Whether the row in a slot stands before the cut, where there is one.
 abbrev pub is_ahead : Slots → List ℕ → List Value → Bool → ℕ → Bool
 is_ahead slots columns values through slot =
-    option_map_or (λ (row : List Value). is_ahead_of columns values through (row, slot)) (row_at slots slot) false
+    option_map_or (λ (row : List Value). is_ahead_of columns values through (row, slot)) (row_under slots slot) false
 
 -- The slots of some entries.
 abbrev pub slots_in : List Entry → List ℕ

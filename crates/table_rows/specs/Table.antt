@@ -17,12 +17,12 @@ pub record Table : Type 0 where
   pub rows : Rows
 
 -- A store's rows, without its vacant slots.
-abbrev pub rows_in : Contents → Rows
-rows_in store = record { entries = walk store.key store.slots; room = length store.slots }
+abbrev pub rows_kept : Contents → Rows
+rows_kept store = record { entries = walk store.key store.slots; room = length store.slots }
 
 -- The same beside the columns.
 abbrev pub table_in : Contents → Table
-table_in store = record { key = store.key; orders = store.orders; rows = rows_in store }
+table_in store = record { key = store.key; orders = store.orders; rows = rows_kept store }
 
 -- The table with this number, as it is kept: in the orders of its indexes.
 abbrev pub kept_of : State → ℕ → Table

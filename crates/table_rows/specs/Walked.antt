@@ -3,7 +3,7 @@ use Rattle.std.specs.Prelude.{ℕ, Bool, true, false, List, [], map, filter, rev
 use Rattle.row_types.specs.declared.values.Value.{Value}
 use Rattle.table_rows.specs.declared.edge.Edge.{Edge}
 use Rattle.table_rows.specs.declared.edge.Edge.TheVariants.{With, Without}
-use Rattle.table_rows.specs.Entries.{Slots, Entry, row_at}
+use Rattle.table_rows.specs.Entries.{Slots, Entry, row_under}
 use Rattle.table_rows.specs.StoreWalks.{is_from, is_to}
 
 -- The low edge at a key: all that begin with it are let in, or, `through` them, what stands behind.
@@ -31,7 +31,7 @@ row_or_empty (Some row) = row
 
 -- The entry of a slot that has a row.
 abbrev pub entry_under : Slots → ℕ → Entry
-entry_under slots slot = (row_or_empty (row_at slots slot), slot)
+entry_under slots slot = (row_or_empty (row_under slots slot), slot)
 
 -- Those of several slots.
 abbrev pub entries_under : Slots → List ℕ → List Entry

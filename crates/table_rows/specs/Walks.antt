@@ -14,13 +14,9 @@ use Rattle.table_rows.specs.declared.slot_ref.SlotRef.{SlotRef}
 use Rattle.table_rows.specs.Rows.{State, indexes_of, entries_of}
 use Rattle.table_rows.specs.Indexes.{primary_of, index_columns}
 
--- The entries in the order of an index.
-abbrev pub walk : List IndexDef → ℕ → List Entry → List Entry
-walk indexes index entries = in_order (entry_cmp (index_columns indexes index)) entries
-
 -- All rows of a table in the order of an index.
 abbrev pub walk_of : State → ℕ → ℕ → List Entry
-walk_of state table index = walk (indexes_of state table) index (entries_of state table)
+walk_of state table index = in_order (entry_cmp (index_columns (indexes_of state table) index)) (entries_of state table)
 
 -- The slot of an entry, if there is one.
 abbrev pub slot_of : Option Entry → Option SlotRef

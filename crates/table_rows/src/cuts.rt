@@ -1,7 +1,7 @@
 //! Where a row or a key comes to stand between the rows of an order.
 ghost use Rattle.std.specs.Prelude.{◌≡◌, false, option_copied};
 ghost use Rattle.table_rows.specs.Cuts.{line_at, row_line, key_line, is_before};
-ghost use Rattle.table_rows.specs.Entries.{row_at, cells};
+ghost use Rattle.table_rows.specs.Entries.{row_under, cells};
 ghost use Rattle.table_rows.specs.StoreInside.{stands, is_same};
 
 use crate::cells::{cmp_rows, cmp_with_key};
@@ -111,7 +111,7 @@ fn stands(through: bool, order: Ordering) -> bool
 
 /// The row in a slot.
 pub(crate) fn row_in(rows: &[Option<Row>], slot: u32) -> Option<&Row>
-    ensures { option_copied result ≡ row_at rows.now slot }
+    ensures { option_copied result ≡ row_under rows.now slot }
 {
     match rows.get(slot as usize) {
         None => None,
@@ -121,7 +121,7 @@ pub(crate) fn row_in(rows: &[Option<Row>], slot: u32) -> Option<&Row>
 
 /// Whether there is a row in the slot, with the cells of this one.
 pub(crate) fn is_same(rows: &[Option<Row>], slot: u32, columns: &[u32], row: &Row) -> bool
-    ensures { result ≡ is_same columns.now row.now (row_at rows.now slot) }
+    ensures { result ≡ is_same columns.now row.now (row_under rows.now slot) }
 {
     match row_in(rows, slot) {
         None => false,

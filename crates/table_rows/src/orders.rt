@@ -2,7 +2,7 @@
 ghost use Rattle.std.specs.Prelude.{◌≡◌, ℕ, ◌+◌, ◌<◌, ◌≤◌, ◌^◌, ◌++◌, [], not, length, set, find, reverse, Option, Some, None, slice_get, option_and_then, OnOk, IfOk, IfSome};
 ghost use Rattle.index_tree.specs.Contents.{IsInside, Finds};
 ghost use Rattle.index_tree.specs.Parts.{IsParted};
-ghost use Rattle.table_rows.specs.Entries.{IsLive, kept, walk};
+ghost use Rattle.table_rows.specs.Entries.{IsTaken, kept, walk};
 ghost use Rattle.table_rows.specs.Marks.{slot_marked};
 ghost use Rattle.table_rows.specs.StoreWalks.{IsNew, first_from, last_to, first_like, behind, in_front, slot_in};
 ghost use Rattle.table_rows.specs.Walked.{upward, downward};
@@ -73,7 +73,7 @@ impl RowOrder {
 
     /// Lets the row in a slot go.
     pub(crate) fn leave(&mut self, rows: &[Option<Row>], slot: u32)
-        requires live { IsLive rows.now slot }
+        requires live { IsTaken rows.now slot }
         requires order { IsOrder rows.now self.old }
         ensures order { IsOrder (set rows.now slot None) self.new }
         ensures columns { columns_in self.new ≡ columns_in self.old }
@@ -85,7 +85,7 @@ impl RowOrder {
     /// Lets in another row in place of the one in a slot. Where their cells are equal nothing is
     /// touched.
     pub(crate) fn shift(&mut self, rows: &[Option<Row>], slot: u32, row: &Row)
-        requires live { IsLive rows.now slot }
+        requires live { IsTaken rows.now slot }
         requires order { IsOrder rows.now self.old }
         requires new { IsNew self.old.whole.items row.now (kept (set rows.now slot None)) }
         ensures order { IsOrder (set rows.now slot (Some row.now)) self.new }
@@ -143,7 +143,7 @@ impl RowOrder {
     /// The slot of the row behind the one in a slot.
     pub(crate) fn next(&self, rows: &[Option<Row>], slot: u32) -> Option<u32>
         requires order { IsOrder rows.now self.now }
-        requires live { IsLive rows.now slot }
+        requires live { IsTaken rows.now slot }
         ensures { result ≡ slot_in (behind slot (walk self.now.whole.items rows.now)) }
     {
         self.slot_at(self.tree.next(self.place_of(rows, slot)))
@@ -152,7 +152,7 @@ impl RowOrder {
     /// The slot of the row in front of the one in a slot.
     pub(crate) fn prev(&self, rows: &[Option<Row>], slot: u32) -> Option<u32>
         requires order { IsOrder rows.now self.now }
-        requires live { IsLive rows.now slot }
+        requires live { IsTaken rows.now slot }
         ensures { result ≡ slot_in (in_front slot (walk self.now.whole.items rows.now)) }
     {
         self.slot_at(self.tree.prev(self.place_of(rows, slot)))
@@ -218,7 +218,7 @@ impl RowOrder {
     // Where the tree has a slot.
     fn place_of(&self, rows: &[Option<Row>], slot: u32) -> Place
         requires order { IsOrder rows.now self.now }
-        requires live { IsLive rows.now slot }
+        requires live { IsTaken rows.now slot }
         ensures { HasAt self.now.tree result slot }
     {
         match row_in(rows, slot) {

@@ -1,7 +1,7 @@
 //! One change to all orders of a store.
 ghost use Rattle.std.specs.Prelude.{◌≡◌, ◌+◌, ◌<◌, ◌^◌, length, map, set, Some, None, OnOk};
 ghost use Rattle.std.specs.List.{AllByRecursion};
-ghost use Rattle.table_rows.specs.Entries.{IsLive, kept};
+ghost use Rattle.table_rows.specs.Entries.{IsTaken, kept};
 ghost use Rattle.table_rows.specs.StoreInside.{IsOrder, IsFresh, HasRoom, columns_in};
 
 use crate::orders::RowOrder;
@@ -41,7 +41,7 @@ pub(crate) fn enter_all(orders: &mut [RowOrder], rows: &[Option<Row>], slot: u32
 
 /// Lets the row in a slot go from each order.
 pub(crate) fn leave_all(orders: &mut [RowOrder], rows: &[Option<Row>], slot: u32)
-    requires live { IsLive rows.now slot }
+    requires live { IsTaken rows.now slot }
     requires each { AllByRecursion (IsOrder rows.now) orders.old }
     ensures each { AllByRecursion (IsOrder (set rows.now slot None)) orders.new }
     ensures columns { map columns_in orders.new ≡ map columns_in orders.old }
@@ -53,7 +53,7 @@ pub(crate) fn leave_all(orders: &mut [RowOrder], rows: &[Option<Row>], slot: u32
 
 /// Lets another row into each order in place of the one in a slot.
 pub(crate) fn shift_all(orders: &mut [RowOrder], rows: &[Option<Row>], slot: u32, row: &Row)
-    requires live { IsLive rows.now slot }
+    requires live { IsTaken rows.now slot }
     requires each { AllByRecursion (IsOrder rows.now) orders.old }
     requires new { AllByRecursion (IsFresh row.now (kept (set rows.now slot None))) orders.old }
     ensures each { AllByRecursion (IsOrder (set rows.now slot (Some row.now))) orders.new }

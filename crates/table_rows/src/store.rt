@@ -34,8 +34,8 @@ impl Model for RowStore {
 }
 
 impl RowStore {
-    ghost use Rattle.table_rows.specs.Contents.{order_of, columns_of, walk_of, with_slot};
-    ghost use Rattle.table_rows.specs.Entries.{kept, vacancies, row_at, IsLive, IsVacant};
+    ghost use Rattle.table_rows.specs.Contents.{order_of, walk_columns, store_walk, with_slot};
+    ghost use Rattle.table_rows.specs.Entries.{kept, vacancies, row_under, IsTaken, IsFree};
     ghost use Rattle.table_rows.specs.Walked.{upward, downward};
     ghost use Rattle.table_rows.specs.StoreWalks.{first_from, last_to, first_like, behind, in_front, slot_in, IsNew, IsKeyed};
 
@@ -97,7 +97,7 @@ impl RowStore {
     pub fn put(&mut self, row: Row) -> u32
         requires room { 0 < vacancies self.old.slots }
         requires new { IsNew self.old.key row (kept self.old.slots) }
-        ensures vacant { IsVacant self.old.slots result }
+        ensures vacant { IsFree self.old.slots result }
         ensures row { self.new ≡ with_slot self.old result (Some row) }
     {
         match self.vacant.pop() {
@@ -112,7 +112,7 @@ impl RowStore {
 
     /// Keeps a new row under this vacant slot. Takes no memory.
     pub fn put_at(&mut self, slot: u32, row: Row)
-        requires vacant { IsVacant self.old.slots slot }
+        requires vacant { IsFree self.old.slots slot }
         requires new { IsNew self.old.key row (kept self.old.slots) }
         ensures { self.new ≡ with_slot self.old slot (Some row) }
     {
@@ -123,9 +123,9 @@ impl RowStore {
 
     /// Keeps another row under a slot, and hands the old one back. Takes no memory.
     pub fn replace(&mut self, slot: u32, row: Row) -> Row
-        requires live { IsLive self.old.slots slot }
+        requires live { IsTaken self.old.slots slot }
         requires new { IsNew self.old.key row (kept (set self.old.slots slot None)) }
-        ensures handed { row_at self.old.slots slot ≡ Some result }
+        ensures handed { row_under self.old.slots slot ≡ Some result }
         ensures row { self.new ≡ with_slot self.old slot (Some row) }
     {
         shift_all(&mut self.orders, self.rows.as_slice(), slot, &row);
@@ -137,8 +137,8 @@ impl RowStore {
 
     /// Lets a row go from its slot, which is vacant then, and hands it back. Takes no memory.
     pub fn take(&mut self, slot: u32) -> Row
-        requires { IsLive self.old.slots slot }
-        ensures handed { row_at self.old.slots slot ≡ Some result }
+        requires { IsTaken self.old.slots slot }
+        ensures handed { row_under self.old.slots slot ≡ Some result }
         ensures vacant { self.new ≡ with_slot self.old slot None }
     {
         leave_all(&mut self.orders, self.rows.as_slice(), slot);
@@ -151,8 +151,8 @@ impl RowStore {
 
     /// The row under a slot.
     pub fn row(&self, slot: u32) -> &Row
-        requires { IsLive self.now.slots slot }
-        ensures row { row_at self.now.slots slot ≡ Some result.now }
+        requires { IsTaken self.now.slots slot }
+        ensures row { row_under self.now.slots slot ≡ Some result.now }
         ensures keyed { IsKeyed self.now.key self.now.slots }
     {
         match row_in(self.rows.as_slice(), slot) {
@@ -163,7 +163,7 @@ impl RowStore {
 
     /// The row under a slot, if there is one.
     pub fn get(&self, slot: u32) -> Option<&Row>
-        ensures { option_copied result ≡ row_at self.now.slots slot }
+        ensures { option_copied result ≡ row_under self.now.slots slot }
     {
         row_in(self.rows.as_slice(), slot)
     }
@@ -172,8 +172,8 @@ impl RowStore {
     pub fn first_from(&self, index: u32, edge: &Edge<RowKey>) -> Option<u32>
         requires { index < length self.now.orders }
         ensures first { result ≡ slot_in
-            (first_from (columns_of self.now index) edge.now (walk_of self.now index)) }
-        ensures live { IfSome result (IsLive self.now.slots) }
+            (first_from (walk_columns self.now index) edge.now (store_walk self.now index)) }
+        ensures live { IfSome result (IsTaken self.now.slots) }
     {
         self.orders[index as usize].first_from(self.rows.as_slice(), edge)
     }
@@ -182,8 +182,8 @@ impl RowStore {
     pub fn last_to(&self, index: u32, edge: &Edge<RowKey>) -> Option<u32>
         requires { index < length self.now.orders }
         ensures last { result ≡ slot_in
-            (last_to (columns_of self.now index) edge.now (walk_of self.now index)) }
-        ensures live { IfSome result (IsLive self.now.slots) }
+            (last_to (walk_columns self.now index) edge.now (store_walk self.now index)) }
+        ensures live { IfSome result (IsTaken self.now.slots) }
     {
         self.orders[index as usize].last_to(self.rows.as_slice(), edge)
     }
@@ -193,8 +193,8 @@ impl RowStore {
     pub fn first_like(&self, index: u32, row: &Row) -> Option<u32>
         requires { index < length self.now.orders }
         ensures first { result ≡ slot_in
-            (first_like (order_of self.now index) row.now (walk_of self.now index)) }
-        ensures live { IfSome result (IsLive self.now.slots) }
+            (first_like (order_of self.now index) row.now (store_walk self.now index)) }
+        ensures live { IfSome result (IsTaken self.now.slots) }
     {
         self.orders[index as usize].first_like(self.rows.as_slice(), row)
     }
@@ -202,9 +202,9 @@ impl RowStore {
     /// The row behind the one under a slot, in the order of an index.
     pub fn next(&self, index: u32, slot: u32) -> Option<u32>
         requires index { index < length self.now.orders }
-        requires live { IsLive self.now.slots slot }
-        ensures behind { result ≡ slot_in (behind slot (walk_of self.now index)) }
-        ensures live { IfSome result (IsLive self.now.slots) }
+        requires live { IsTaken self.now.slots slot }
+        ensures behind { result ≡ slot_in (behind slot (store_walk self.now index)) }
+        ensures live { IfSome result (IsTaken self.now.slots) }
     {
         self.orders[index as usize].next(self.rows.as_slice(), slot)
     }
@@ -212,9 +212,9 @@ impl RowStore {
     /// The row in front of the one under a slot, in the order of an index.
     pub fn prev(&self, index: u32, slot: u32) -> Option<u32>
         requires index { index < length self.now.orders }
-        requires live { IsLive self.now.slots slot }
-        ensures in_front { result ≡ slot_in (in_front slot (walk_of self.now index)) }
-        ensures live { IfSome result (IsLive self.now.slots) }
+        requires live { IsTaken self.now.slots slot }
+        ensures in_front { result ≡ slot_in (in_front slot (store_walk self.now index)) }
+        ensures live { IfSome result (IsTaken self.now.slots) }
     {
         self.orders[index as usize].prev(self.rows.as_slice(), slot)
     }
@@ -224,7 +224,7 @@ impl RowStore {
     pub fn up<'a>(&'a self, index: u32, key: &'a [Value], through: bool) -> StoreWalk<'a>
         requires { index < length self.now.orders }
         ensures { result
-            ≡ upward (columns_of self.now index) key.now through (walk_of self.now index) }
+            ≡ upward (walk_columns self.now index) key.now through (store_walk self.now index) }
     {
         self.orders[index as usize].up(self.rows.as_slice(), key, through)
     }
@@ -234,7 +234,7 @@ impl RowStore {
     pub fn down<'a>(&'a self, index: u32, key: &'a [Value], through: bool) -> StoreWalk<'a>
         requires { index < length self.now.orders }
         ensures { result
-            ≡ downward (columns_of self.now index) key.now through (walk_of self.now index) }
+            ≡ downward (walk_columns self.now index) key.now through (store_walk self.now index) }
     {
         self.orders[index as usize].down(self.rows.as_slice(), key, through)
     }

@@ -16,7 +16,7 @@ pub struct StoreWalk<'a> {
 impl<'a> Model for StoreWalk<'a> {
     ghost use Rattle.std.specs.Prelude.{List};
     ghost use Rattle.std.specs.List.{AllByRecursion};
-    ghost use Rattle.table_rows.specs.Entries.{Entry, IsLive};
+    ghost use Rattle.table_rows.specs.Entries.{Entry, IsTaken};
     ghost use Rattle.table_rows.specs.Marks.{slots_of};
     ghost use Rattle.table_rows.specs.Walked.{entries_under};
 
@@ -24,7 +24,7 @@ impl<'a> Model for StoreWalk<'a> {
 
     ghost view = { λ walk. entries_under walk.rows.now (slots_of walk.marks) };
 
-    ghost invariant = { λ walk. AllByRecursion (IsLive walk.rows.now) (slots_of walk.marks) };
+    ghost invariant = { λ walk. AllByRecursion (IsTaken walk.rows.now) (slots_of walk.marks) };
 }
 
 impl<'a> StoreWalk<'a> {

@@ -1,6 +1,6 @@
 //! The slots that are vacant.
 ghost use Rattle.std.specs.Prelude.{◌≡◌, ◌+◌, ◌<◌, ◌≤◌, ◌^◌, ◌++◌, List, length, replicate, set, Some, None, vec_len, vec_capacity};
-ghost use Rattle.table_rows.specs.Entries.{IsVacant};
+ghost use Rattle.table_rows.specs.Entries.{IsFree};
 ghost use Rattle.table_rows.specs.StoreInside.{AreVacant};
 ghost use Rattle.row_types.specs.declared.values.Value.{Value};
 
@@ -26,7 +26,7 @@ pub(crate) fn add_slots(rows: &mut Vec<Option<Row>>, vacant: &mut Vec<u32>, more
 /// Takes a vacant slot off the list. It looks from the list's end, where whatever undoes changes
 /// finds it: slots come back to it there in the order in which they went.
 pub(crate) fn drop_slot(rows: &[Option<Row>], vacant: &mut Vec<u32>, slot: u32)
-    requires slot { IsVacant rows.now slot }
+    requires slot { IsFree rows.now slot }
     requires vacant { AreVacant rows.now vacant.old.items }
     ensures vacant { (row : List Value) →
         AreVacant (set rows.now slot (Some row)) vacant.new.items }

@@ -1,6 +1,6 @@
 use Rattle.std.proofs.Common.{◌≡◌, Bool, true, false, List, IfSome, ap, sym, subst, ◌∙◌}
 use Rattle.table_rows.specs.Entries as store
-use Rattle.table_rows.specs.Entries.{Entry, kept, vacancies, row_at, walk}
+use Rattle.table_rows.specs.Entries.{Entry, kept, vacancies, row_under, walk}
 use Rattle.table_rows.specs.StoreWalks.{slot_in, behind, in_front}
 use Rattle.table_rows.specs.Slots.{is_live}
 use Rattle.table_rows.specs.Table.{Table, table_in, walk_by}
@@ -12,12 +12,12 @@ use Rattle.table_rows.proofs.one_table.OneTable.go_on.Goals as goal
 pub prev-requires-clause-live : goal.prev-requires-clause-live
 prev-requires-clause-live c =
     let s = c.self.inside.store in
-    subst (λ (t : Table). is_live c.args.slot t.rows.entries ≡ true → store.IsLive s.slots c.args.slot) c.self.view_is (live_store s.key s.slots c.args.slot) c.requires.live
+    subst (λ (t : Table). is_live c.args.slot t.rows.entries ≡ true → store.IsTaken s.slots c.args.slot) c.self.view_is (live_store s.key s.slots c.args.slot) c.requires.live
 
 pub next-requires-clause-live : goal.next-requires-clause-live
 next-requires-clause-live c =
     let s = c.self.inside.store in
-    subst (λ (t : Table). is_live c.args.slot t.rows.entries ≡ true → store.IsLive s.slots c.args.slot) c.self.view_is (live_store s.key s.slots c.args.slot) c.requires.live
+    subst (λ (t : Table). is_live c.args.slot t.rows.entries ≡ true → store.IsTaken s.slots c.args.slot) c.self.view_is (live_store s.key s.slots c.args.slot) c.requires.live
 
 pub returns-then-down-clause-gone_on : goal.returns-then-down-clause-gone_on
 returns-then-down-clause-gone_on c =

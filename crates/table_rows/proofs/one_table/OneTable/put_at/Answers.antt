@@ -1,6 +1,6 @@
 use Rattle.std.proofs.Common.{◌≡◌, subst}
 use Rattle.table_rows.specs.Entries as store
-use Rattle.table_rows.specs.Entries.{Entry, kept, vacancies, row_at, walk}
+use Rattle.table_rows.specs.Entries.{Entry, kept, vacancies, row_under, walk}
 use Rattle.table_rows.specs.StoreWalks.{IsNew}
 use Rattle.table_rows.specs.Slots.{IsVacant}
 use Rattle.table_rows.specs.Table.{Table, table_in, with_row_in}
@@ -11,7 +11,7 @@ use Rattle.table_rows.proofs.one_table.OneTable.put_at.Goals as goal
 pub put_at-requires-clause-vacant : goal.put_at-requires-clause-vacant
 put_at-requires-clause-vacant c =
     let s = c.self.inside.store in
-    subst (λ (t : Table). IsVacant c.args.slot t.rows → store.IsVacant s.slots c.args.slot) c.self.view_is (vacant_here s.key s.slots c.args.slot) c.requires.vacant
+    subst (λ (t : Table). IsVacant c.args.slot t.rows → store.IsFree s.slots c.args.slot) c.self.view_is (vacant_here s.key s.slots c.args.slot) c.requires.vacant
 
 pub put_at-requires-clause-new : goal.put_at-requires-clause-new
 put_at-requires-clause-new c =

@@ -1,6 +1,6 @@
 use Rattle.std.proofs.Common.{◌≡◌, set, true, None, subst}
 use Rattle.table_rows.specs.Entries as store
-use Rattle.table_rows.specs.Entries.{Entry, kept, vacancies, row_at, walk}
+use Rattle.table_rows.specs.Entries.{Entry, kept, vacancies, row_under, walk}
 use Rattle.table_rows.specs.StoreWalks.{IsNew}
 use Rattle.table_rows.specs.Slots.{is_live, row_of, without}
 use Rattle.table_rows.specs.Table.{Table, table_in, with_row_in}
@@ -11,7 +11,7 @@ use Rattle.table_rows.proofs.one_table.OneTable.replace.Goals as goal
 pub replace-requires-clause-live : goal.replace-requires-clause-live
 replace-requires-clause-live c =
     let s = c.self.inside.store in
-    subst (λ (t : Table). is_live c.args.slot t.rows.entries ≡ true → store.IsLive s.slots c.args.slot) c.self.view_is (live_store s.key s.slots c.args.slot) c.requires.live
+    subst (λ (t : Table). is_live c.args.slot t.rows.entries ≡ true → store.IsTaken s.slots c.args.slot) c.self.view_is (live_store s.key s.slots c.args.slot) c.requires.live
 
 pub replace-requires-clause-new : goal.replace-requires-clause-new
 replace-requires-clause-new c =

@@ -2,7 +2,7 @@ use Rattle.std.proofs.Common.{ℕ, false, not, List, find, Some, None, sym, ap, 
 use Rattle.index_tree.specs.Parts.{IsParted}
 use Rattle.table_rows.specs.declared.mark.Mark.{Mark}
 use Rattle.table_rows.specs.Cuts.{Line, is_before, line_at}
-use Rattle.table_rows.specs.Entries.{row_at, cells, walk}
+use Rattle.table_rows.specs.Entries.{row_under, cells, walk}
 use Rattle.table_rows.specs.Marks.{marks_in, slot_marked}
 use Rattle.table_rows.specs.StoreWalks.{IsKeyed, first_like, slot_in}
 use Rattle.table_rows.proofs.LikeRows.{own_parted, like_slot, if_same}
@@ -53,8 +53,8 @@ returns-then-is_same c =
     let told = ap (λ (cs : List ℕ). slot_in (first_like own row (walk cs rows))) columns
     ∙ like_slot own key row rows c.first_behind.result (subst (λ (cs : List ℕ). IsKeyed cs rows) columns order.apart) found in
     let slot = c.in_ok-slot.slot in
-    let same = ap (λ (cs : List ℕ). is_same cs row (row_at rows slot)) (sym c.as_slice-columns.ensures.value) ∙ sym c.is_same.ensures ∙ c.if-is_same.true in
-    sym (told ∙ ap (if_same own key row rows) c.in_ok-slot.was ∙ cond-true (is_same own row (row_at rows slot)) (Some slot) None same)
+    let same = ap (λ (cs : List ℕ). is_same cs row (row_under rows slot)) (sym c.as_slice-columns.ensures.value) ∙ sym c.is_same.ensures ∙ c.if-is_same.true in
+    sym (told ∙ ap (if_same own key row rows) c.in_ok-slot.was ∙ cond-true (is_same own row (row_under rows slot)) (Some slot) None same)
 
 pub returns-else-is_same : goal.returns-else-is_same
 returns-else-is_same c =
@@ -71,5 +71,5 @@ returns-else-is_same c =
     let told = ap (λ (cs : List ℕ). slot_in (first_like own row (walk cs rows))) columns
     ∙ like_slot own key row rows c.first_behind.result (subst (λ (cs : List ℕ). IsKeyed cs rows) columns order.apart) found in
     let slot = c.in_ok-slot.slot in
-    let same = ap (λ (cs : List ℕ). is_same cs row (row_at rows slot)) (sym c.as_slice-columns.ensures.value) ∙ sym c.is_same.ensures ∙ c.if-is_same.false in
-    sym (told ∙ ap (if_same own key row rows) c.in_ok-slot.was ∙ cond-false (is_same own row (row_at rows slot)) (Some slot) None same)
+    let same = ap (λ (cs : List ℕ). is_same cs row (row_under rows slot)) (sym c.as_slice-columns.ensures.value) ∙ sym c.is_same.ensures ∙ c.if-is_same.false in
+    sym (told ∙ ap (if_same own key row rows) c.in_ok-slot.was ∙ cond-false (is_same own row (row_under rows slot)) (Some slot) None same)

@@ -3,7 +3,7 @@ use Rattle.index_tree.specs.Parts.{IsParted, first_place}
 use Rattle.index_tree.specs.Contents.{IsAt}
 use Rattle.table_rows.specs.declared.mark.Mark.{Mark}
 use Rattle.table_rows.specs.Cuts.{Line, is_before, line_at}
-use Rattle.table_rows.specs.Entries.{row_at, cells}
+use Rattle.table_rows.specs.Entries.{row_under, cells}
 use Rattle.table_rows.specs.Marks.{slot_marked}
 use Rattle.table_rows.proofs.OrderSteps.{marks_parted, place_in_walk, place_found, mark_in_walk, found_place}
 use Rattle.table_rows.proofs.orders.RowOrder.place_of.Goals as goal
@@ -24,7 +24,7 @@ unreachable-requires-in-None-first_behind c =
     let whole = c.args.self.now.whole.items in
     let rows = c.args.rows.now in
     let row = c.in-Some.row.now in
-    let live : row_at rows c.args.slot ≡ Some row = sym c.row_in.ensures ∙ ap option_copied c.in-Some.is in
+    let live : row_under rows c.args.slot ≡ Some row = sym c.row_in.ensures ∙ ap option_copied c.in-Some.is in
     let line = c.of.ensures ∙ ap (λ (cs : List ℕ). line_at rows cs (cells cs row) false) c.as_slice-columns.ensures.value in
     let where_it_is = ap (λ (l : Line). first_place (λ (m : Mark). not (is_before l m)) c.args.self.now.tree.items) line
     ∙ ap (first_place (λ (m : Mark). not (is_before (line_at rows whole (cells whole row) false) m))) c.requires.order.walked ∙ place_found whole rows c.args.slot row live c.requires.order.apart in
@@ -36,7 +36,7 @@ returns c =
     let whole = c.args.self.now.whole.items in
     let rows = c.args.rows.now in
     let row = c.in-Some.row.now in
-    let live : row_at rows c.args.slot ≡ Some row = sym c.row_in.ensures ∙ ap option_copied c.in-Some.is in
+    let live : row_under rows c.args.slot ≡ Some row = sym c.row_in.ensures ∙ ap option_copied c.in-Some.is in
     let line = c.of.ensures ∙ ap (λ (cs : List ℕ). line_at rows cs (cells cs row) false) c.as_slice-columns.ensures.value in
     let where_it_is = ap (λ (l : Line). first_place (λ (m : Mark). not (is_before l m)) c.args.self.now.tree.items) line
     ∙ ap (first_place (λ (m : Mark). not (is_before (line_at rows whole (cells whole row) false) m))) c.requires.order.walked ∙ place_found whole rows c.args.slot row live c.requires.order.apart in

@@ -1,5 +1,5 @@
 use Rattle.std.proofs.Common.{◌≡◌, ℕ, true, List, Some, sym, ap, ◌∙◌, arith}
-use Rattle.table_rows.specs.Entries.{row_at}
+use Rattle.table_rows.specs.Entries.{row_under}
 use Rattle.std.proofs.lemmas.List.{length-set}
 use Rattle.table_rows.specs.StoreInside.{is_same}
 use Rattle.table_rows.proofs.KeptRows.{live_within}
@@ -15,7 +15,7 @@ returns-then-is_same-clause-order c =
     let order = c.requires.order in
     let live = live_row rows c.args.slot c.requires.live in
     let ties : is_same whole row (Some live.0) ≡ true =
-    ap (is_same whole row) (sym live.1) ∙ ap (λ (cs : List ℕ). is_same cs row (row_at rows c.args.slot)) (sym c.as_slice.ensures.value) ∙ sym c.is_same.ensures ∙ c.if-is_same.true in
+    ap (is_same whole row) (sym live.1) ∙ ap (λ (cs : List ℕ). is_same cs row (row_under rows c.args.slot)) (sym c.as_slice.ensures.value) ∙ sym c.is_same.ensures ∙ c.if-is_same.true in
     let keyed = keyed_put whole rows c.args.slot (live_within rows c.args.slot live.0 live.1) row (keyed_take whole rows c.args.slot live.0 live.1 order.apart) c.requires.new in
     record {
       apart = keyed;

@@ -2,7 +2,7 @@ use Rattle.std.proofs.Common.{List, length, map, set, Some, None, sym, ap, subst
 use Rattle.std.specs.List.{AllByRecursion}
 use Rattle.table_rows.specs.declared.orders.RowOrder.{RowOrder}
 use Rattle.table_rows.specs.Contents.{Contents, with_slot}
-use Rattle.table_rows.specs.Entries.{Slots, kept, IsVacant}
+use Rattle.table_rows.specs.Entries.{Slots, kept, IsFree}
 use Rattle.table_rows.specs.StoreWalks.{IsNew, IsKeyed}
 use Rattle.table_rows.specs.StoreInside.{IsOrder, IsFresh, AreVacant, columns_in}
 use Rattle.table_rows.proofs.KeptRows.{vacant_within, vacant_itself}
@@ -31,7 +31,7 @@ returns-clause-vacant c =
     let vacant = last_vacant rows c.pop.new.self.items slot (subst (AreVacant rows) c.in-Some.ensures.items store.vacant) in
     let itself = vacant_itself rows slot vacant in
     let new = subst (λ (st : Contents). IsNew st.key c.args.row (kept st.slots)) (sym c.self.view_is) c.requires.new in
-    subst (λ (st : Contents). IsVacant st.slots slot) c.self.view_is vacant
+    subst (λ (st : Contents). IsFree st.slots slot) c.self.view_is vacant
 
 pub returns-clause-row : goal.returns-clause-row
 returns-clause-row c = view_changed c.self.inside c.enter_all.new.orders (c.enter_all.ensures.columns ∙ ap (map columns_in) c.deref_mut.ensures.value) c.in-Some.slot (Some c.args.row) c.pop.new.self ∙ ap (λ (st : Contents). with_slot st c.in-Some.slot (Some c.args.row)) c.self.view_is

@@ -2,7 +2,7 @@ use Rattle.std.proofs.Common.{List, map, set, Some, None, sym, ap, subst, ◌∙
 use Rattle.std.specs.List.{AllByRecursion}
 use Rattle.table_rows.specs.declared.orders.RowOrder.{RowOrder}
 use Rattle.table_rows.specs.Contents.{Contents, with_slot}
-use Rattle.table_rows.specs.Entries.{Slots, kept, IsVacant}
+use Rattle.table_rows.specs.Entries.{Slots, kept, IsFree}
 use Rattle.table_rows.specs.StoreWalks.{IsNew, IsKeyed}
 use Rattle.table_rows.specs.StoreInside.{IsOrder, IsFresh, AreVacant, columns_in}
 use Rattle.table_rows.proofs.KeptRows.{vacant_within, vacant_itself}
@@ -19,7 +19,7 @@ enter_all-requires-clause-each c =
     let store = c.self.invariant in
     let slot = c.args.slot in
     let rows = s.rows.items in
-    let vacant = subst (λ (st : Contents). IsVacant st.slots slot) (sym c.self.view_is) c.requires.vacant in
+    let vacant = subst (λ (st : Contents). IsFree st.slots slot) (sym c.self.view_is) c.requires.vacant in
     let itself = vacant_itself rows slot vacant in
     let new = subst (λ (st : Contents). IsNew st.key c.args.row (kept st.slots)) (sym c.self.view_is) c.requires.new in
     subst (λ (os : List RowOrder). AllByRecursion (IsOrder (set c.as_slice-2.result.now slot None)) os) (sym c.deref_mut.ensures.value)
@@ -31,7 +31,7 @@ enter_all-requires-clause-new c =
     let store = c.self.invariant in
     let slot = c.args.slot in
     let rows = s.rows.items in
-    let vacant = subst (λ (st : Contents). IsVacant st.slots slot) (sym c.self.view_is) c.requires.vacant in
+    let vacant = subst (λ (st : Contents). IsFree st.slots slot) (sym c.self.view_is) c.requires.vacant in
     let itself = vacant_itself rows slot vacant in
     let new = subst (λ (st : Contents). IsNew st.key c.args.row (kept st.slots)) (sym c.self.view_is) c.requires.new in
     subst (λ (os : List RowOrder). AllByRecursion (IsFresh c.args.row (kept (set c.as_slice-2.result.now slot None))) os) (sym c.deref_mut.ensures.value)
@@ -44,7 +44,7 @@ index_mut-requires c =
     let store = c.self.invariant in
     let slot = c.args.slot in
     let rows = s.rows.items in
-    let vacant = subst (λ (st : Contents). IsVacant st.slots slot) (sym c.self.view_is) c.requires.vacant in
+    let vacant = subst (λ (st : Contents). IsFree st.slots slot) (sym c.self.view_is) c.requires.vacant in
     let itself = vacant_itself rows slot vacant in
     let new = subst (λ (st : Contents). IsNew st.key c.args.row (kept st.slots)) (sym c.self.view_is) c.requires.new in
     omega (arith, vacant_within rows slot vacant, s.rows.ok.0)
@@ -55,7 +55,7 @@ invariant_of-self c =
     let store = c.self.invariant in
     let slot = c.args.slot in
     let rows = s.rows.items in
-    let vacant = subst (λ (st : Contents). IsVacant st.slots slot) (sym c.self.view_is) c.requires.vacant in
+    let vacant = subst (λ (st : Contents). IsFree st.slots slot) (sym c.self.view_is) c.requires.vacant in
     let itself = vacant_itself rows slot vacant in
     let new = subst (λ (st : Contents). IsNew st.key c.args.row (kept st.slots)) (sym c.self.view_is) c.requires.new in
     store_changed s c.enter_all.new.orders (c.enter_all.ensures.columns ∙ ap (map columns_in) c.deref_mut.ensures.value) slot (Some c.args.row) c.drop_slot.new.vacant store c.as_slice-2.result.now c.as_slice-2.ensures.value c.enter_all.ensures.each

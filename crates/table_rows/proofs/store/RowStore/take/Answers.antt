@@ -2,7 +2,7 @@ use Rattle.std.proofs.Common.{List, ◌∷◌, length, map, set, Option, None, s
 use Rattle.std.specs.Vec.{with_item, with_items}
 use Rattle.row_types.specs.declared.values.Value.{Value}
 use Rattle.table_rows.specs.Contents.{Contents, with_slot}
-use Rattle.table_rows.specs.Entries.{IsLive}
+use Rattle.table_rows.specs.Entries.{IsTaken}
 use Rattle.table_rows.specs.StoreInside.{AreVacant, IsStore, columns_in, contents}
 use Rattle.table_rows.proofs.OrderSteps.{live_row}
 use Rattle.table_rows.proofs.StoreSteps.{store_changed, view_changed}
@@ -18,7 +18,7 @@ push_reserved-requires c =
     let store = c.self.invariant in
     let slot = c.args.slot in
     let rows = s.rows.items in
-    let live = live_row rows slot (subst (λ (st : Contents). IsLive st.slots slot) (sym c.self.view_is) c.requires) in
+    let live = live_row rows slot (subst (λ (st : Contents). IsTaken st.slots slot) (sym c.self.view_is) c.requires) in
     omega (arith, s.vacant.ok.0, store.vacant.count, store.room, count_kept rows, ap length (kept_live rows slot live.0 live.1), length-append (before rows slot) ((live.0, slot) ∷ after rows slot))
 
 pub invariant_of-self : goal.invariant_of-self
@@ -27,7 +27,7 @@ invariant_of-self c =
     let store = c.self.invariant in
     let slot = c.args.slot in
     let rows = s.rows.items in
-    let live = live_row rows slot (subst (λ (st : Contents). IsLive st.slots slot) (sym c.self.view_is) c.requires) in
+    let live = live_row rows slot (subst (λ (st : Contents). IsTaken st.slots slot) (sym c.self.view_is) c.requires) in
     subst (λ (h : Option (List Value)). IsStore (record { key = s.key; orders = with_items s.orders c.leave_all.new.orders; rows = with_item s.rows slot h; vacant = c.push_reserved.new.self })) (sym c.replace.ensures.after)
     (store_changed s c.leave_all.new.orders (c.leave_all.ensures.columns ∙ ap (map columns_in) c.deref_mut.ensures.value) slot None c.push_reserved.new.self store c.as_slice.result.now c.as_slice.ensures.value c.leave_all.ensures.each
     (subst (AreVacant (set rows slot None)) (sym c.push_reserved.ensures.items) (one_vacated rows slot live.0 s.vacant.items store.vacant live.1)) c.push_reserved.ensures.capacity
@@ -39,6 +39,6 @@ returns-clause-vacant c =
     let store = c.self.invariant in
     let slot = c.args.slot in
     let rows = s.rows.items in
-    let live = live_row rows slot (subst (λ (st : Contents). IsLive st.slots slot) (sym c.self.view_is) c.requires) in
+    let live = live_row rows slot (subst (λ (st : Contents). IsTaken st.slots slot) (sym c.self.view_is) c.requires) in
     ap (λ (h : Option (List Value)). contents (record { key = s.key; orders = with_items s.orders c.leave_all.new.orders; rows = with_item s.rows slot h; vacant = c.push_reserved.new.self })) c.replace.ensures.after
     ∙ view_changed s c.leave_all.new.orders (c.leave_all.ensures.columns ∙ ap (map columns_in) c.deref_mut.ensures.value) slot None c.push_reserved.new.self ∙ ap (λ (st : Contents). with_slot st slot None) c.self.view_is
