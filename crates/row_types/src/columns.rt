@@ -15,7 +15,8 @@ pub enum Kind {
     Bytes(u32),
 }
 
-/// A column of a table. `null` says whether it may hold NULL; an insert that leaves it out puts `preset` there.
+/// A column of a table. `null` says whether it may hold NULL; an insert that leaves it out puts
+/// `preset` there.
 #[derive(Debug, Drop)]
 pub struct Column {
     pub name: ByteText,

@@ -5,10 +5,11 @@
 //! | `Value` | NULL, an integer of 64 bits with its sign, or a text of bytes |
 //! | `Row`, `RowKey` | a list of values: of a table's columns, or of an index's parts |
 //! | `Column`, `IndexDef`, `TableDef`, `Schema` | the shape of tables |
-//! | `List`, `ByteText` | a `Vec` that contracts see as the list of its items. A type may hold itself through `List` |
+//! | `List`, `ByteText` | a `Vec` seen as a list by contracts; a type may hold itself in a `List` |
 //!
-//! NULL stands before every integer, an integer before every text; texts go by their bytes. Which schema is valid,
-//! and how one is spelled, is the work of `hs_schema`; how rows are kept, that of `table_rows`.
+//! NULL stands before every integer, an integer before every text; texts go by their bytes. Which
+//! schema is valid, and how one is spelled, is the work of `hs_schema`; how rows are kept, that of
+//! `table_rows`.
 #![tactic(auto)]
 
 mod byte_text;

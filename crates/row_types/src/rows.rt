@@ -30,8 +30,8 @@ pub fn cmp_prefix(key: &RowKey, prefix: &RowKey) -> Ordering
     key.as_slice()[..parts.len()].cmp(parts)
 }
 
-/// The bytes that a row counts against the limit on all rows. It is what the limit speaks of, and not
-/// what a row takes in memory.
+/// The bytes that a row counts against the limit on all rows. It is what the limit speaks of, and
+/// not what a row takes in memory.
 pub fn row_size(row: &Row) -> u64
     requires { row_size row.now < 2 ^ 64 }
     ensures { result ≡ row_size row.now }
