@@ -3,13 +3,14 @@ ghost use Rattle.std.specs.Prelude.{◌≡◌, ◌+◌, [], ◌∷◌, codes, So
 ghost use Rattle.row_types.specs.declared.values.Value.TheVariants as values;
 ghost use Rattle.table_rows.specs.declared.verdict.Verdict.TheVariants.{Fine, Dup, Null, Full};
 ghost use Rattle.table_rows.specs.declared.undo.Undo.TheVariants.{Put, Replaced, Deleted};
-ghost use Rattle.table_rows.specs.Rows.{entries_of};
-ghost use Rattle.table_rows.specs.Slots.{row_at, with_row_at, without_at};
+ghost use Rattle.table_rows.specs.Rows.{entries_of, room_of};
+ghost use Rattle.table_rows.specs.Slots.{row_at, row_found, with_row_at, without_at};
 ghost use Rattle.table_rows.specs.Sizes.{total};
 ghost use Rattle.table_rows.specs.Checks.{verdict_of};
-ghost use Rattle.table_rows.specs.Walks.{walk_of, slot_of, begun, gone_on};
+ghost use Rattle.table_rows.specs.Walks.{walk_of, keyed, slot_of, begun, gone_on};
+ghost use Rattle.table_rows.specs.Widths.{with_slots};
 ghost use Rattle.table_rows.specs.Undoing.{undone};
-ghost use Rattle.table_rows.specs.Examples.{some_row, two_rows, third_row, slot_named};
+ghost use Rattle.table_rows.specs.Examples.{some_indexes, some_row, two_rows, third_row, slot_named};
 
 /// What is said of a third row, where 255 bytes are just enough for it.
 pub fn worked_verdicts()
@@ -41,4 +42,19 @@ pub fn worked_changes()
     ensures deleted { undone (Deleted 0 (slot_named 1) (some_row 1 values.Null 9))
         (without_at (two_rows 255) 0 1) ≡ two_rows 255 }
     ensures last { slot_of (gone_on false 1 (walk_of (two_rows 255) 0 2)) ≡ None }
+{}
+
+/// Which of the two rows has a key, and how many slots there are where more are asked for.
+pub fn worked_keys_and_slots()
+    ensures whole_key { slot_of (keyed some_indexes
+        (values.Int (pos 2) ∷ values.Int (pos 5) ∷ []) (entries_of (two_rows 255) 0))
+        ≡ Some (slot_named 0) }
+    ensures half_a_key { slot_of (keyed some_indexes
+        (values.Int (pos 1) ∷ []) (entries_of (two_rows 255) 0)) ≡ Some (slot_named 1) }
+    ensures no_such_key { slot_of (keyed some_indexes
+        (values.Int (pos 2) ∷ values.Int (pos 6) ∷ []) (entries_of (two_rows 255) 0)) ≡ None }
+    ensures there { row_found (two_rows 255) 0 1 ≡ Some (some_row 1 values.Null 9) }
+    ensures vacant { row_found (two_rows 255) 0 2 ≡ None }
+    ensures at_hand { with_slots (two_rows 255) 0 1 ≡ two_rows 255 }
+    ensures three_more { room_of (with_slots (two_rows 255) 0 4) 0 ≡ 6 }
 {}

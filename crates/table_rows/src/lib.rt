@@ -57,7 +57,7 @@ mod walk;
 pub use bound::Bound;
 pub use cells::has_key;
 pub use edge::Edge;
-pub use laws::{worked_changes, worked_verdicts};
+pub use laws::{worked_changes, worked_keys_and_slots, worked_verdicts};
 pub use slot_ref::SlotRef;
 pub use tables::Tables;
 pub use undo::Undo;
