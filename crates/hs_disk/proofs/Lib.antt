@@ -1,4 +1,5 @@
 mod HeldLemmas
 mod ImageLemmas
+mod FileLemmas
 mod WorkedExamples
 mod WriteLemmas

@@ -6,8 +6,8 @@ use Rattle.fault_count.specs.Cause.{next_count}
 abbrev pub written : ℕ → List ℕ → List ℕ → List ℕ
 written at bytes old = take at old ++ bytes ++ drop (at + length bytes) old
 
--- A write of n bytes that was cut short: any bytes in its range, of which the part past the old end may be missing. All
--- else is as it was.
+-- A write of n bytes that was cut short: any bytes in its range, of which the part past the old end
+-- may be missing. All else is as it was.
 pub record Torn (at n : ℕ) (old new : List ℕ) : Type 0 where
   pub before : take at new ≡ take at old
   pub after : drop (at + n) new ≡ drop (at + n) old
@@ -18,14 +18,16 @@ pub record Torn (at n : ℕ) (old new : List ℕ) : Type 0 where
 abbrev pub Cut : ℕ → List ℕ → List ℕ → Type 0
 Cut n old new = (new ≡ old) ⊎ (new ≡ take n old)
 
--- `count` bytes of the disk's, from this place on, stand at the front of the buffer, which is full except at the disk's end
+-- `count` bytes of the disk's, from this place on, stand at the front of the buffer, which is full
+-- except at the disk's end
 pub record Fills (disk : List ℕ) (at count : ℕ) (old new : List ℕ) : Type 0 where
   pub full : count ≡ min (length old) (length disk - at)
   pub bytes : new ≡ take count (drop at disk) ++ drop count old
 
 -- each image of now is an earlier image after this step
 abbrev pub Follows : (List ℕ → List ℕ → Type 0) → (List ℕ → Type 0) → (List ℕ → Type 0) → Type 0
-Follows step old new = (image : List ℕ) → new image → (earlier : List ℕ) × old earlier × step earlier image
+Follows step old new =
+    (image : List ℕ) → new image → (earlier : List ℕ) × old earlier × step earlier image
 
 -- no image is there that was not there before
 abbrev pub AddsNone : (List ℕ → Type 0) → (List ℕ → Type 0) → Type 0
@@ -40,7 +42,8 @@ abbrev pub calls_after : ℕ → ℕ → ℕ
 calls_after zero count = count
 calls_after (suc n) count = next_count (calls_after n count)
 
--- Time goes on: a crash at some moment since t may have left what it may have left before, or what it may leave now.
+-- Time goes on: a crash at some moment since t may have left what it may have left before, or what
+-- it may leave now.
 pub record Elapses (before now : ℕ) (past since : ℕ → List ℕ → Type 0) (may_leave : List ℕ → Type 0) : Type 0 where
   pub later : before ≤ now
   pub nothing_else : (t : ℕ) (image : List ℕ) → t ≤ before → since t image → past t image ⊎ may_leave image

@@ -24,27 +24,50 @@ pub record Held : Type 0 where
 
 -- a disk that was made with these bytes
 abbrev pub made : List ℕ → List ℕ → Held
-made bytes fail_at = record { first = bytes; changes = []; bytes = bytes; fail_at = fail_at; calls = 0; faults = 0; short = false }
+made bytes fail_at = record {
+  first = bytes;
+  changes = [];
+  bytes = bytes;
+  fail_at = fail_at;
+  calls = 0;
+  faults = 0;
+  short = false;
+}
 
 -- the disk after a changing call that was carried out
 abbrev pub carried_out : Held → Change → List ℕ → Held
-carried_out old change bytes = record old { bytes = bytes; changes = old.changes ++ change ∷ []; calls = next_count old.calls }
+carried_out old change bytes = record old {
+  bytes = bytes;
+  changes = old.changes ++ change ∷ [];
+  calls = next_count old.calls;
+}
 
 -- the disk after a changing call that failed and is remembered
 abbrev pub lost : Held → Change → Held
-lost old change = record old { changes = old.changes ++ change ∷ []; calls = next_count old.calls; faults = next_count old.faults }
+lost old change = record old {
+  changes = old.changes ++ change ∷ [];
+  calls = next_count old.calls;
+  faults = next_count old.faults;
+}
 
--- the disk after a changing call that failed for want of memory, of which nothing else is remembered
+-- the disk after a changing call that failed for want of memory, of which nothing else is
+-- remembered
 abbrev pub out_of_memory : Held → Held
-out_of_memory old = record old { calls = next_count old.calls; faults = next_count old.faults; short = true }
+out_of_memory old = record old {
+  calls = next_count old.calls;
+  faults = next_count old.faults;
+  short = true;
+}
 
--- a write of n bytes that failed, as it is remembered: one past the greatest length leaves nothing in doubt
+-- a write of n bytes that failed, as it is remembered: one past the greatest length leaves nothing
+-- in doubt
 abbrev pub lost_write : ℕ → ℕ → Change
 lost_write at n = if past_end at n then Lost else LostWrite at n
 
 -- how a failed call leaves the disk
 abbrev pub FailsWith : Change → Held → Held → Type 0
-FailsWith change old new = ((old.short ≡ false) × (new ≡ lost old change)) ⊎ (new ≡ out_of_memory old)
+FailsWith change old new =
+    ((old.short ≡ false) × (new ≡ lost old change)) ⊎ (new ≡ out_of_memory old)
 
 -- whether the next changing call fails by its number, or for want of memory
 abbrev pub is_to_fail : Held → Bool

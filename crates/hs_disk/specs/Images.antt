@@ -15,10 +15,13 @@ read_after Lost seen = seen
 
 -- the images after a call, of those before it and of what a read gave then
 abbrev pub images_after : Change → List ℕ → (List ℕ → Type 0) → List ℕ → Type 0
-images_after (Wrote at bytes) seen before image = (earlier : List ℕ) × before earlier × Torn at (length bytes) earlier image
-images_after (LostWrite at n) seen before image = (earlier : List ℕ) × before earlier × Torn at n earlier image
+images_after (Wrote at bytes) seen before image =
+    (earlier : List ℕ) × before earlier × Torn at (length bytes) earlier image
+images_after (LostWrite at n) seen before image =
+    (earlier : List ℕ) × before earlier × Torn at n earlier image
 images_after (CutTo n) seen before image = (earlier : List ℕ) × before earlier × Cut n earlier image
-images_after (LostCut n) seen before image = (earlier : List ℕ) × before earlier × Cut n earlier image
+images_after (LostCut n) seen before image =
+    (earlier : List ℕ) × before earlier × Cut n earlier image
 images_after Synced seen before image = image ≡ seen
 images_after Lost seen before image = before image
 
@@ -30,7 +33,8 @@ read_at_end seen (change ∷ changes) = read_at_end (read_after change seen) cha
 -- the images after these calls, of those at their beginning
 abbrev pub images_at_end : List ℕ → (List ℕ → Type 0) → List Change → List ℕ → Type 0
 images_at_end seen images [] = images
-images_at_end seen images (change ∷ changes) = images_at_end (read_after change seen) (images_after change seen images) changes
+images_at_end seen images (change ∷ changes) =
+    images_at_end (read_after change seen) (images_after change seen images) changes
 
 -- the images of a disk that began with these bytes, all of them synced, after these calls
 abbrev pub IsImage : List ℕ → List Change → List ℕ → Type 0
@@ -38,4 +42,5 @@ IsImage first = images_at_end first (λ image. image ≡ first)
 
 -- an image after some number of these calls, and at least t of them
 abbrev pub WasImageSince : List ℕ → List Change → ℕ → List ℕ → Type 0
-WasImageSince first changes t image = (k : ℕ) × (t ≤ k) × (k ≤ length changes) × IsImage first (take k changes) image
+WasImageSince first changes t image =
+    (k : ℕ) × (t ≤ k) × (k ≤ length changes) × IsImage first (take k changes) image

@@ -4,6 +4,8 @@ pub mod Held
 pub mod Images
 pub mod Inside
 pub mod Length
+pub mod HostFile
 pub mod OpenFile
+pub mod Foreign
 pub mod Sound
 pub mod Writes

@@ -14,8 +14,8 @@ images disk = IsImage disk.first disk.changes
 abbrev pub left_since : Held → ℕ → List ℕ → Type 0
 left_since disk = WasImageSince disk.first disk.changes
 
--- its bytes are what its calls make of the first ones, they are one of its images and fewer than 2^63, and its faults fit
--- their counter
+-- its bytes are what its calls make of the first ones, they are one of its images and fewer than
+-- 2^63, and its faults fit their counter
 pub record IsSound (disk : Held) : Type 0 where
   pub replays : read_at_end disk.first disk.changes ≡ disk.bytes
   pub reads : IsImage disk.first disk.changes disk.bytes

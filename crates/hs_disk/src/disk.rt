@@ -1,4 +1,5 @@
-//! A disk as its users see it: bytes that are read, written and synced, and the images that a crash may leave.
+//! A disk as its users see it: bytes that are read, written and synced, and the images that a crash
+//! may leave.
 ghost use Rattle.std.specs.Prelude.{◌≡◌, ◌+◌, ◌^◌, ◌<◌, ◌≤◌, ◌++◌, List, ℕ, length, take, IfOk, OnOk, OnErr};
 ghost use Rattle.fault_count.specs.Cause.{HasCause, next_count};
 ghost use Rattle.hs_disk.specs.Disk.{written, Torn, Cut, Fills, Follows, AddsNone, Only, Elapses};
@@ -20,7 +21,8 @@ pub trait Disk {
     /// The moment, as a number that never falls.
     ghost moment: { Self → ℕ };
 
-    /// The images that a crash at some moment since that one may have left, during a call or between two.
+    /// The images that a crash at some moment since that one may have left, during a call or
+    /// between two.
     ghost left_since: { Self → ℕ → List ℕ → Type 0 };
 
     /// How many calls have failed so far. The count stands still at its type's end.
@@ -44,7 +46,8 @@ pub trait Disk {
         ensures calls { tells → calls self.new ≡ calls self.old }
         ensures cause { HasCause (fault_count self.old) (fault_count self.new) result };
 
-    /// Fills the buffer from this place on, except at the disk's end, and says how many bytes it read.
+    /// Fills the buffer from this place on, except at the disk's end, and says how many bytes it
+    /// read.
     fn read(&mut self, at: u64, buf: &mut [u8]) -> Result<usize, Failed>
         ensures bytes { tells → IfOk result (λ n. Fills (seen self.old) at n buf.old buf.new) }
         ensures bound { IfOk result (λ n. n ≤ length buf.old) }
@@ -56,7 +59,8 @@ pub trait Disk {
         ensures calls { tells → calls self.new ≡ calls self.old }
         ensures cause { HasCause (fault_count self.old) (fault_count self.new) result };
 
-    /// Writes over what is there, and past the end. Until a sync, a crash may leave any bytes in the range.
+    /// Writes over what is there, and past the end. Until a sync, a crash may leave any bytes in
+    /// the range.
     fn write_at(&mut self, at: u64, bytes: &[u8]) -> Result<(), Failed>
         requires { tells → at ≤ length (seen self.old) }
         ensures written { tells → OnOk result
@@ -88,7 +92,8 @@ pub trait Disk {
         ensures calls { tells → calls self.new ≡ next_count (calls self.old) }
         ensures cause { HasCause (fault_count self.old) (fault_count self.new) result };
 
-    /// Cuts the disk to a length, and leaves a shorter one. Until a sync, a crash may leave either length.
+    /// Cuts the disk to a length, and leaves a shorter one. Until a sync, a crash may leave either
+    /// length.
     fn cut(&mut self, len: u64) -> Result<(), Failed>
         ensures cut { tells → OnOk result (seen self.new ≡ take len (seen self.old)) }
         ensures torn { tells → OnErr result (Cut len (seen self.old) (seen self.new)) }

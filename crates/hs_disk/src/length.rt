@@ -12,7 +12,8 @@ pub(crate) fn passes_end(at: u64, len: u64) -> bool
     at > MAX_LEN || len > MAX_LEN - at
 }
 
-/// How many bytes three pieces have together, unless a write of them at this place would pass the greatest length.
+/// How many bytes three pieces have together, unless a write of them at this place would pass the
+/// greatest length.
 pub(crate) fn joined_len(at: u64, head: &[u8], body: &[u8], tail: &[u8]) -> Option<u64>
     ensures { MatchOption result (past_end at (length (head.now ++ body.now ++ tail.now)) ≡ true)
         (λ len. (len ≡ length (head.now ++ body.now ++ tail.now)) × (past_end at len ≡ false)) }

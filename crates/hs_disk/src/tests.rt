@@ -1,115 +1,125 @@
-//! What a disk answers, through the trait, in memory and over a file.
-use crate::{Disk, Failed, FileDisk, MemDisk};
-use std::fs::File;
+//! What no clause says: that calls succeed, what a file of the system keeps, and what becomes of
+//! one that does little a call or fails.
+use crate::{Disk, Failed, FileDisk, HostFile, MemDisk};
 use std::io::ErrorKind;
-use std::rt::Files;
 use std::test::Fail;
 use std::{fs, io};
 
-// Reads all of a disk through its bound, and says how many of its calls have failed.
-fn front<D: Disk + Drop>(mut disk: D, buf: &mut [u8]) -> (Result<usize, Failed>, u64) {
-    let answer = disk.read(0, buf);
-    (answer, disk.faults())
+/// A file in memory that reads and writes one byte a call, and fails as it is told.
+#[derive(Drop)]
+struct LittleFile {
+    bytes: Vec<u8>,
+    fails_to_cut: bool,
+    fails_to_sync: bool,
 }
 
-#[test]
-fn a_call_fails_where_it_is_named_to_fail(rt: HostRuntime) -> Result<(), Fail> {
-    for (fail_at, want, faults) in [
-        ([0], [b'x', b'y'].as_slice(), 0),
-        ([1], [b'a', b'b'].as_slice(), 1),
-        ([2], [b'x', b'y', b'c'].as_slice(), 1),
-        ([3], [b'x', b'y'].as_slice(), 1),
-        ([4], [b'x', b'y'].as_slice(), 0),
-    ] {
-        let mut disk = MemDisk::of(rt.alloc(), b"abc", &fail_at)?;
-        let _ = disk.write_at(0, b"xy");
-        let _ = disk.cut(2);
-        let _ = disk.sync();
-        assert_eq!(rt; disk.bytes(), want, "failing {fail_at:?}");
-        assert_eq!(rt; disk.faults(), faults, "failing {fail_at:?}");
-        assert_eq!(rt; disk.changing_calls(), 3, "failing {fail_at:?}");
-        assert!(rt; !disk.short());
+impl HostFile for LittleFile {
+    ghost use Rattle.std.specs.Prelude.{None};
+
+    ghost holds = { λ _. None };
+
+    ghost waits = { λ _. None };
+
+    fn len(&mut self) -> io::Result<u64> {
+        Ok(self.bytes.len() as u64)
     }
-    Ok(())
+
+    fn read_at(&mut self, at: u64, buf: &mut [u8]) -> io::Result<usize> {
+        match (self.bytes.get(at as usize), buf) {
+            (Some(byte), [first, ..]) => {
+                *first = *byte;
+                Ok(1)
+            }
+            _ => Ok(0),
+        }
+    }
+
+    fn write_at(&mut self, at: u64, bytes: &[u8]) -> io::Result<usize> {
+        let Some(first) = bytes.first() else {
+            return Ok(0);
+        };
+        match self.bytes.get_mut(at as usize) {
+            Some(byte) => *byte = *first,
+            None => self.bytes.push(*first)?,
+        }
+        Ok(1)
+    }
+
+    fn set_len(&mut self, len: u64) -> io::Result<()> {
+        if self.fails_to_cut {
+            return Err(ErrorKind::Other.into());
+        }
+        self.bytes.truncate(len as usize);
+        Ok(())
+    }
+
+    fn sync(&mut self) -> io::Result<()> {
+        if self.fails_to_sync {
+            return Err(ErrorKind::Other.into());
+        }
+        Ok(())
+    }
 }
 
 #[test]
-fn pieces_are_written_by_one_call(rt: HostRuntime) -> Result<(), Fail> {
-    let mut disk = MemDisk::of(rt.alloc(), b"abc", &[2])?;
-    disk.write_pieces(2, b"12", b"", b"3").ok().ok_or("write")?;
-    assert!(rt; disk.write_pieces(0, b"x", b"y", b"z").is_err());
-    assert_eq!(rt; disk.bytes(), [b'a', b'b', b'1', b'2', b'3'].as_slice());
-    assert_eq!(rt; disk.changing_calls(), 2);
-    Ok(())
-}
-
-#[test]
-fn a_read_fills_its_buffer_up_to_the_end(rt: HostRuntime) -> Result<(), Fail> {
-    let mut disk = MemDisk::of(rt.alloc(), b"abc", &[])?;
-    let mut buf = [0; 4];
-    assert_eq!(rt; disk.read(1, &mut buf).ok(), Some(2));
-    assert_eq!(rt; buf, [b'b', b'c', 0, 0]);
-    assert_eq!(rt; disk.read(3, &mut buf).ok(), Some(0));
-    assert_eq!(rt; disk.len().ok(), Some(3));
-    let (answer, faults) = front(&mut disk, &mut buf[..2]);
-    assert_eq!(rt; answer.ok(), Some(2));
-    assert_eq!(rt; faults, 0);
-    assert_eq!(rt; buf, [b'a', b'b', 0, 0]);
-    Ok(())
-}
-
-#[test]
-fn a_file_holds_what_was_written(rt: HostRuntime) -> Result<(), Fail> {
-    let path = "hs_disk_holds.tmp";
-    let mut disk = FileDisk::open(&rt, path)?;
-    disk.cut(0).ok().ok_or("cut")?;
-    disk.write_at(0, b"jo").ok().ok_or("write")?;
-    disk.write_pieces(2, b"u", b"rna", b"l")
-        .ok()
-        .ok_or("write")?;
-    disk.cut(6).ok().ok_or("cut")?;
-    disk.sync().ok().ok_or("sync")?;
-    let mut again = FileDisk::open(&rt, path)?;
+fn a_file_that_does_little_a_call_holds_all(rt: HostRuntime) -> Result<(), Fail> {
+    let mut disk = FileDisk::over(LittleFile {
+        bytes: Vec::new(rt.alloc()),
+        fails_to_cut: true,
+        fails_to_sync: true,
+    })?;
     let mut buf = [0; 8];
-    assert_eq!(rt; again.len().ok(), Some(6));
-    assert_eq!(rt; again.read(0, &mut buf).ok(), Some(6));
-    assert_eq!(rt; buf, [b'j', b'o', b'u', b'r', b'n', b'a', 0, 0]);
-    assert_eq!(rt; front(again, &mut buf).1, 0);
-    fs::remove_file(&rt, path)?;
+    assert_eq!(rt; disk.write_at(0, b"jonas"), Ok(()));
+    assert_eq!(rt; disk.write_pieces(2, b"u", b"rn", b"al"), Ok(()));
+    assert_eq!(rt; disk.read(0, &mut buf), Ok(7));
+    assert_eq!(rt; buf, *b"journal\0");
+    assert_eq!(rt; disk.cut(3), Err(Failed));
+    assert_eq!(rt; disk.sync(), Err(Failed));
+    assert_eq!(rt; (disk.len(), disk.faults()), (Ok(7), 2));
     Ok(())
 }
 
-// How many bytes a file holds to one who opens it, and how many of them a read puts into the buffer.
-fn opened<R: Files<File = File>>(rt: &R, path: &str, buf: &mut [u8]) -> io::Result<(u64, usize)> {
-    let mut disk = FileDisk::open(rt, path)?;
-    let (Ok(len), Ok(count)) = (disk.len(), disk.read(0, buf)) else {
-        return Err(ErrorKind::Other.into());
-    };
-    Ok((len, count))
+#[test]
+fn a_disk_in_memory_does_what_it_is_asked(rt: HostRuntime) -> Result<(), Fail> {
+    let mut disk = MemDisk::of(rt.alloc(), b"abc", &[4])?;
+    let mut buf = [0; 6];
+    assert_eq!(rt; disk.write_at(0, b"xy"), Ok(()));
+    assert_eq!(rt; disk.write_pieces(2, b"12", b"", b"3"), Ok(()));
+    assert_eq!(rt; disk.cut(4), Ok(()));
+    assert_eq!(rt; disk.sync(), Err(Failed));
+    assert_eq!(rt; (&mut disk).read(1, &mut buf), Ok(3));
+    assert_eq!(rt; buf, *b"y12\0\0\0");
+    assert_eq!(rt; disk.bytes(), b"xy12".as_slice());
+    assert_eq!(rt; (disk.changing_calls(), disk.faults()), (4, 1));
+    assert!(rt; !disk.short());
+    Ok(())
+}
+
+/// What a file holds once it is no disk any more.
+fn left(rt: &HostRuntime, path: &str) -> Result<Vec<u8>, Fail> {
+    Ok(fs::read(rt, path)?)
 }
 
 #[test]
-fn a_file_grows_ahead_by_zeros_that_its_disk_does_not_show(rt: HostRuntime) -> Result<(), Fail> {
-    let path = "hs_disk_grows.tmp";
-    let mut buf = [1; 5];
+fn a_file_keeps_what_was_written_and_gives_back_the_zeros(rt: HostRuntime) -> Result<(), Fail> {
+    let path = "hs_disk_keeps.tmp";
     let mut disk = FileDisk::open(&rt, path)?;
-    disk.cut(0).ok().ok_or("cut")?;
-    disk.write_at(0, b"j").ok().ok_or("write")?;
-    assert_eq!(rt; opened(&rt, path, &mut buf)?, (1, 1));
-    disk.write_pieces(1, b"o", b"", b"u").ok().ok_or("write")?;
-    assert_eq!(rt; opened(&rt, path, &mut buf)?, (3 + (1 << 20), 5));
-    assert_eq!(rt; buf, [b'j', b'o', b'u', 0, 0]);
-    assert_eq!(rt; disk.len().ok(), Some(3));
-    assert_eq!(rt; disk.read(1, &mut buf).ok(), Some(2));
-    assert_eq!(rt; disk.read(4, &mut buf).ok(), Some(0));
-    disk.write_at(3, b"rnal").ok().ok_or("write")?;
-    assert_eq!(rt; disk.len().ok(), Some(7));
-    assert_eq!(rt; opened(&rt, path, &mut buf)?, (3 + (1 << 20), 5));
-    disk.cut(9).ok().ok_or("cut")?;
-    assert_eq!(rt; disk.len().ok(), Some(7));
-    disk.cut(4).ok().ok_or("cut")?;
-    assert_eq!(rt; disk.len().ok(), Some(4));
-    assert_eq!(rt; opened(&rt, path, &mut buf)?, (4, 4));
+    assert!(rt; FileDisk::open(&rt, path).is_err(), "opened twice");
+    assert_eq!(rt; disk.write_at(0, b"\x00"), Ok(()));
+    assert_eq!(rt; left(&rt, path)?.len(), 1);
+    assert_eq!(rt; disk.write_pieces(1, b"jou", b"rn", b"al"), Ok(()));
+    assert_eq!(rt; left(&rt, path)?.len(), 8 + (1 << 20));
+    assert_eq!(rt; disk.cut(8), Ok(()));
+    assert_eq!(rt; disk.sync(), Ok(()));
+    drop(disk);
+    assert_eq!(rt; left(&rt, path)?.as_slice(), b"\x00journal".as_slice());
+    // A write in the middle adds nothing.
+    let mut again = FileDisk::open(&rt, path)?;
+    let mut buf = [0; 9];
+    assert_eq!(rt; again.write_at(2, b"a"), Ok(()));
+    assert_eq!(rt; (again.len(), again.read(0, &mut buf)), (Ok(8), Ok(8)));
+    assert_eq!(rt; buf, *b"\x00jaurnal\0");
+    assert_eq!(rt; left(&rt, path)?.as_slice(), b"\x00jaurnal".as_slice());
     fs::remove_file(&rt, path)?;
     Ok(())
 }
@@ -118,15 +128,16 @@ fn a_file_grows_ahead_by_zeros_that_its_disk_does_not_show(rt: HostRuntime) -> R
 fn pieces_of_every_length_are_written_whole(rt: HostRuntime) -> Result<(), Fail> {
     let path = "hs_disk_pieces.tmp";
     let body = [7; 9000];
-    for len in [0, 1, 8189, 8190, 8191, 9000] {
+    for len in [0, 8189, 8190, 8191, 9000] {
         let mut disk = FileDisk::open(&rt, path)?;
-        disk.cut(0).ok().ok_or("cut")?;
-        disk.write_pieces(0, b"a", &body[..len], b"z")
-            .ok()
-            .ok_or("write")?;
         let mut buf = [0; 9003];
-        assert_eq!(rt; disk.read(0, &mut buf).ok(), Some(len + 2), "{len}");
-        assert_eq!(rt; buf[0], b'a', "{len}");
+        assert_eq!(rt; disk.cut(0), Ok(()), "{len}");
+        assert_eq!(rt;
+            disk.write_pieces(0, b"\x01", &body[..len], b"z"),
+            Ok(()),
+            "{len}"
+        );
+        assert_eq!(rt; disk.read(0, &mut buf), Ok(len + 2), "{len}");
         assert_eq!(rt; &buf[1..=len], &body[..len], "{len}");
         assert_eq!(rt; &buf[len + 1..len + 3], b"z\0".as_slice(), "{len}");
     }
@@ -135,15 +146,26 @@ fn pieces_of_every_length_are_written_whole(rt: HostRuntime) -> Result<(), Fail>
 }
 
 #[test]
-fn a_file_counts_each_failure(rt: HostRuntime) -> Result<(), Fail> {
+fn a_file_that_is_no_journal_is_refused_and_stays(rt: HostRuntime) -> Result<(), Fail> {
+    let path = "hs_disk_foreign.tmp";
+    for (bytes, is_ours) in [
+        (b"".as_slice(), true),
+        (b"x", true),
+        (b"\x01", true),
+        (b"\x00x", true),
+        (b"\x01x", true),
+        (b"xHSJRNL01", true),
+        (b"xHSJRNL01x", true),
+        (b"xHSJRNL0", false),
+        (b"xy", false),
+        (b"a note, and no journal", false),
+    ] {
+        fs::write(&rt, path, bytes)?;
+        assert_eq!(rt; FileDisk::open(&rt, path).is_ok(), is_ours, "{bytes:?}");
+        assert_eq!(rt; left(&rt, path)?.as_slice(), bytes);
+    }
     assert!(rt; FileDisk::open(&rt, "no_such_folder/journal").is_err());
     assert!(rt; FileDisk::open(&rt, "/").is_err());
-    let path = "hs_disk_fails.tmp";
-    let mut disk = FileDisk::open(&rt, path)?;
-    assert!(rt; disk.write_at((1 << 63) - 2, b"ab").is_err());
-    assert_eq!(rt; disk.faults(), 1);
-    assert!(rt; disk.write_at(u64::MAX, b"a").is_err());
-    assert_eq!(rt; disk.faults(), 2);
     fs::remove_file(&rt, path)?;
     Ok(())
 }

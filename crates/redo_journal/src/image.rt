@@ -6,10 +6,9 @@ ghost use Rattle.redo_journal.specs.Reading.{StandFrom, ReadsRecord, RefusesHead
 
 use crate::record::Record;
 use crate::refusal::Refusal;
+use hs_disk::MARK;
 use row_types::ByteText;
 use std::alloc::Global;
-
-const MARK: [u8; 8] = *b"HSJRNL01";
 
 // The place behind a text whose length stands at this one, or None where it, or the gate behind it, lies past the end.
 fn end_of(image: &[u8], at: usize) -> Option<usize>

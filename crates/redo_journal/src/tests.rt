@@ -194,6 +194,7 @@ fn a_file_keeps_its_records(rt: HostRuntime) -> Result<(), Fail> {
     let (mut journal, _) = open_on(rt.alloc(), &mut file, &TEXT)?;
     assert!(rt; journal.records() == 0);
     assert!(rt; journal.append(&mut file, &PAYLOAD).is_ok());
+    drop(file);
     let mut again = FileDisk::open(&rt, path)?;
     let (_, records) = open_on(rt.alloc(), &mut again, &TEXT)?;
     fs::remove_file(&rt, path)?;
