@@ -21,9 +21,11 @@ use Rattle.table_rows.specs.Rows.{State, no_rows, columns_of, indexes_of, entrie
 use Rattle.table_rows.specs.Indexes.{primary_of}
 use Rattle.table_rows.specs.Slots.{is_live, row_at, with_row, with_row_at}
 use Rattle.table_rows.specs.Valid.{IsValidState}
+use Rattle.table_rows.specs.Widths.{with_slots}
 use Rattle.table_rows.proofs.BySlot.{row_of_member, without_free}
 use Rattle.table_rows.proofs.States.{rows_valid}
 use Rattle.table_rows.proofs.Roomier.{widened_roomier}
+use Rattle.table_rows.proofs.Wider.{slots_widened}
 use Rattle.find_scan.specs.Select.{columns_for, selected, slots_of}
 use Rattle.find_scan.specs.Show.{find_reply}
 use Rattle.find_scan.specs.Rendering.{rows_at, rendered}
@@ -33,11 +35,11 @@ use Rattle.find_scan.proofs.Chosen.{all_selected}
 use Rattle.row_insert.specs.declared.inserts.Inserted.{Inserted}
 use Rattle.row_insert.specs.declared.inserts.Inserted.TheVariants as inserted
 use Rattle.row_insert.specs.Refusal.{refusal_of}
-use Rattle.row_insert.specs.Insert.{new_row, answer_to, IsPut, IsUnchanged}
+use Rattle.row_insert.specs.Insert.{new_row, answer_to, IsPut}
 use Rattle.row_insert.proofs.Widened.{within_widened}
 use Rattle.find_modify.specs.declared.modifies.Modified.{Modified}
 use Rattle.find_modify.specs.declared.modifies.Modified.TheVariants as modified
-use Rattle.find_modify.specs.Change.{changed_all, IsDone}
+use Rattle.find_modify.specs.Change.{changed_all}
 use Rattle.find_modify.specs.Change as modify
 use Rattle.find_modify.proofs.CellKinds.{ok_is}
 use Rattle.table_rows.specs.Database.{Database, rows_alone, rows_in, database_of, placed, placed_in}
@@ -108,12 +110,14 @@ put_new state table slot row below free =
 
 put_database : (before after : State) (table : ℕ) (row : List Value) (undos more : List Undo) → table < length before.tables → IsPut table row before after undos more → database_of after ≡ with_new (database_of before) table row
 put_database before after table row undos more below put =
+    let between = with_slots before table 1 in
+    let wide = slots_widened before table below 1 in
     ap database_of put.put
-    ∙ put_new put.between table put.slot row (within_widened before put.between table below put.widened) put.vacant.free
-    ∙ ap (λ (db : Database). with_new db table row) (roomier_same before put.between (widened_roomier table before put.between put.widened))
+    ∙ put_new between table put.slot row (within_widened before between table below wide) put.vacant.free
+    ∙ ap (λ (db : Database). with_new db table row) (roomier_same before between (widened_roomier table before between wide))
 
-same_database : (before after : State) (table : ℕ) (undos more : List Undo) → IsUnchanged table before after undos more → database_of after ≡ database_of before
-same_database before after table undos more same = roomier_same before after (widened_roomier table before after same.rows)
+same_database : (before after : State) (table : ℕ) (undos more : List Undo) → (after ≡ before) × (more ≡ undos) → database_of after ≡ database_of before
+same_database before after table undos more same = ap database_of same.0
 
 -- something that is there
 abbrev fine : {A E : Type 0} → A → Result A E
@@ -128,7 +132,7 @@ code_in inserted.Done = 0
 code_in (inserted.Refused code) = code
 
 module _ (state after : State) (valid : IsValidState state) (table : ℕ) (row : List Value) (below : table < length state.tables) (undos more : List Undo) where
-  by_refusal : (refusal : Option Code) (answer : Inserted) → answer ≡ answer_to refusal → (answer ≡ inserted.Done → IsPut table row state after undos more) → (answer ≢ inserted.Done → IsUnchanged table state after undos more) → unless_barred (database_of state) table row refusal ≡ (code_reply (code_in answer), database_of after)
+  by_refusal : (refusal : Option Code) (answer : Inserted) → answer ≡ answer_to refusal → (answer ≡ inserted.Done → IsPut table row state after undos more) → (answer ≢ inserted.Done → (after ≡ state) × (more ≡ undos)) → unless_barred (database_of state) table row refusal ≡ (code_reply (code_in answer), database_of after)
   by_refusal None answer is put same =
       ap₂ (λ (reply : List ℕ) (db : Database). (reply, db)) (ap (λ (a : Inserted). code_reply (code_in a)) (sym is))
       (sym (put_database state after table row undos more below (put is)))
@@ -140,14 +144,14 @@ module _ (state after : State) (valid : IsValidState state) (table : ℕ) (row :
       refused is = cc
 
   -- an insert is answered as it is without slots
-  pub insert_answer : (answer : Inserted) → answer ≡ answer_to (refusal_of state table row None) → (answer ≡ inserted.Done → IsPut table row state after undos more) → (answer ≢ inserted.Done → IsUnchanged table state after undos more) → unless_barred (database_of state) table row (refusal_of (placed_in (database_of state)) table row None) ≡ (code_reply (code_in answer), database_of after)
+  pub insert_answer : (answer : Inserted) → answer ≡ answer_to (refusal_of state table row None) → (answer ≡ inserted.Done → IsPut table row state after undos more) → (answer ≢ inserted.Done → (after ≡ state) × (more ≡ undos)) → unless_barred (database_of state) table row (refusal_of (placed_in (database_of state)) table row None) ≡ (code_reply (code_in answer), database_of after)
   insert_answer answer is put same =
       ap (unless_barred (database_of state) table row)
       (sym (none_same (naming state valid table below) (apart_naming state valid table below) state.schema state.bytes_max table state.tables (map placed (map rows_in state.tables)) (named_tables state valid table below) row))
       ∙ by_refusal (refusal_of state table row None) answer is put same
 
 -- the same by the result of the call
-pub insert_is : {E : Type 0} (state after : State) (valid : IsValidState state) (spec : InsertSpec) → spec.table < length state.tables → (undos more : List Undo) (result : Result Inserted E) (answer : Inserted) → result ≡ Ok answer → answer ≡ answer_to (refusal_of state spec.table (new_row (columns_of state spec.table) spec) None) → (result ≡ Ok inserted.Done → IsPut spec.table (new_row (columns_of state spec.table) spec) state after undos more) → (result ≢ Ok inserted.Done → IsUnchanged spec.table state after undos more) → insert_answered (database_of state) spec ≡ (code_reply (code_in answer), database_of after)
+pub insert_is : {E : Type 0} (state after : State) (valid : IsValidState state) (spec : InsertSpec) → spec.table < length state.tables → (undos more : List Undo) (result : Result Inserted E) (answer : Inserted) → result ≡ Ok answer → answer ≡ answer_to (refusal_of state spec.table (new_row (columns_of state spec.table) spec) None) → (result ≡ Ok inserted.Done → IsPut spec.table (new_row (columns_of state spec.table) spec) state after undos more) → (result ≢ Ok inserted.Done → (after ≡ state) × (more ≡ undos)) → insert_answered (database_of state) spec ≡ (code_reply (code_in answer), database_of after)
 insert_is state after valid spec below undos more result answer ok is put same =
     insert_answer state after valid spec.table (new_row (columns_of state spec.table) spec) below undos more answer is
     (λ done. put (ok ∙ ap Ok done)) (λ other. same (λ e. other (ok_same answer inserted.Done (sym ok ∙ e))))
@@ -166,12 +170,11 @@ module _ (state after : State) (valid : IsValidState state) (find : FindSpec) (c
       (all_same (naming state valid find.table below) (apart_naming state valid find.table below) state.schema state.bytes_max find.table find.columns change
       (slots_of (chosen (database_of state) find)) state.tables (map placed (map rows_in state.tables)) (named_tables state valid find.table below))
 
-  by_made : (r q : Result State Code) → alike r q → (answer : Modified) → answer ≡ modify.answer_to (slots_of (selected state find)) r → ((count : ℕ) → answer ≡ modified.Done count → IsDone find.table r state after undos more) → (((count : ℕ) → answer ≢ modified.Done count) → IsUnchanged find.table state after undos more) → (reply : List ℕ) → unless_refused (database_of state) reply q ≡ (reply_of reply answer, database_of after)
+  by_made : (r q : Result State Code) → alike r q → (answer : Modified) → answer ≡ modify.answer_to (slots_of (selected state find)) r → ((count : ℕ) → answer ≡ modified.Done count → r ≡ Ok after) → (((count : ℕ) → answer ≢ modified.Done count) → (after ≡ state) × (more ≡ undos)) → (reply : List ℕ) → unless_refused (database_of state) reply q ≡ (reply_of reply answer, database_of after)
   by_made (Ok s) (Ok c) (ts, us, here, there, same) answer is done unchanged reply =
       let d = done (length (slots_of (selected state find))) is in
       let rows : database_of after ≡ database_of c =
-      roomier_same d.final after (widened_roomier find.table d.final after d.wider)
-      ∙ ap database_of (sym (ok_is s d.final d.made_is) ∙ here)
+      ap database_of (sym (ok_is s after d) ∙ here)
       ∙ ap (λ (tables : List (List (List Value))). record { schema = state.schema; bytes_max = state.bytes_max; tables = tables }) same.alone
       ∙ ap database_of (sym there) in
       ap₂ (λ (r : List ℕ) (db : Database). (r, db)) (ap (reply_of reply) (sym is)) (sym rows)
@@ -185,7 +188,7 @@ module _ (state after : State) (valid : IsValidState state) (find : FindSpec) (c
       refused count is = cc
 
   -- a change is answered as it is without slots
-  pub change_answer : (answer : Modified) → answer ≡ modify.answer_to (slots_of (selected state find)) made → ((count : ℕ) → answer ≡ modified.Done count → IsDone find.table made state after undos more) → (((count : ℕ) → answer ≢ modified.Done count) → IsUnchanged find.table state after undos more) → (reply : List ℕ) → unless_refused (database_of state) reply (changed (database_of state) find change) ≡ (reply_of reply answer, database_of after)
+  pub change_answer : (answer : Modified) → answer ≡ modify.answer_to (slots_of (selected state find)) made → ((count : ℕ) → answer ≡ modified.Done count → made ≡ Ok after) → (((count : ℕ) → answer ≢ modified.Done count) → (after ≡ state) × (more ≡ undos)) → (reply : List ℕ) → unless_refused (database_of state) reply (changed (database_of state) find change) ≡ (reply_of reply answer, database_of after)
   change_answer = by_made made (changed (database_of state) find change) made_alike
 
 -- the reply that a find shows, where it fits and where it is too big
@@ -206,17 +209,17 @@ module _ {E : Type 0} (state after : State) (valid : IsValidState state) (find :
   MadeBy by = IfOk result (λ answer. answer ≡ modify.answer_to by.1 (changed_all find.table by.0 change by.1 state))
 
   abbrev pub DoneBy : List ℕ × List SlotRef → Type 0
-  DoneBy by = (count : ℕ) → result ≡ Ok (modified.Done count) → IsDone find.table (changed_all find.table by.0 change by.1 state) state after undos more
+  DoneBy by = (count : ℕ) → result ≡ Ok (modified.Done count) → changed_all find.table by.0 change by.1 state ≡ Ok after
 
   abbrev pub IsAnswered : Type 0
   IsAnswered = IfOk result (λ answer. (reply : List ℕ) → unless_refused (database_of state) reply (changed (database_of state) find change) ≡ (reply_of reply answer, database_of after))
 
-made_here : {E : Type 0} (state after : State) (valid : IsValidState state) (find : FindSpec) (change : ModSpec) (below : find.table < length state.tables) (undos more : List Undo) (result : Result Modified E) → MadeBy state after valid find change below undos more result (find.columns, slots_of (selected state find)) → DoneBy state after valid find change below undos more result (find.columns, slots_of (selected state find)) → (((count : ℕ) → result ≢ Ok (modified.Done count)) → IsUnchanged find.table state after undos more) → IsAnswered state after valid find change below undos more result
+made_here : {E : Type 0} (state after : State) (valid : IsValidState state) (find : FindSpec) (change : ModSpec) (below : find.table < length state.tables) (undos more : List Undo) (result : Result Modified E) → MadeBy state after valid find change below undos more result (find.columns, slots_of (selected state find)) → DoneBy state after valid find change below undos more result (find.columns, slots_of (selected state find)) → (((count : ℕ) → result ≢ Ok (modified.Done count)) → (after ≡ state) × (more ≡ undos)) → IsAnswered state after valid find change below undos more result
 made_here state after valid find change below undos more (Ok answer) is done unchanged =
     change_answer state after valid find change below undos more answer is (λ count e. done count (ap Ok e)) (λ never. unchanged (λ count e. never count (ok_same answer (modified.Done count) e)))
 made_here state after valid find change below undos more (Err error) is done unchanged = tt
 
-pub made_is : {E : Type 0} (state after : State) (valid : IsValidState state) (find : FindSpec) (change : ModSpec) (below : find.table < length state.tables) (undos more : List Undo) (result : Result Modified E) (columns : List ℕ) (slots : List SlotRef) → columns ≡ find.columns → slots ≡ slots_of (selected state find) → MadeBy state after valid find change below undos more result (columns, slots) → DoneBy state after valid find change below undos more result (columns, slots) → (((count : ℕ) → result ≢ Ok (modified.Done count)) → IsUnchanged find.table state after undos more) → IsAnswered state after valid find change below undos more result
+pub made_is : {E : Type 0} (state after : State) (valid : IsValidState state) (find : FindSpec) (change : ModSpec) (below : find.table < length state.tables) (undos more : List Undo) (result : Result Modified E) (columns : List ℕ) (slots : List SlotRef) → columns ≡ find.columns → slots ≡ slots_of (selected state find) → MadeBy state after valid find change below undos more result (columns, slots) → DoneBy state after valid find change below undos more result (columns, slots) → (((count : ℕ) → result ≢ Ok (modified.Done count)) → (after ≡ state) × (more ≡ undos)) → IsAnswered state after valid find change below undos more result
 made_is state after valid find change below undos more result columns slots first second is done unchanged =
     let by : (columns, slots) ≡ (find.columns, slots_of (selected state find)) = ap₂ (λ (cs : List ℕ) (ss : List SlotRef). (cs, ss)) first second in
     made_here state after valid find change below undos more result

@@ -18,7 +18,8 @@ use Rattle.table_rows.specs.Slots.{row_of, row_at, without, with_row, with_row_a
 use Rattle.table_rows.specs.Sizes.{total, is_full}
 use Rattle.table_rows.specs.Checks.{null_column, dup_index, first_found}
 use Rattle.row_insert.specs.Refusal.{is_too_long, code_of, refusal_of}
-use Rattle.find_modify.specs.Cells.{◌>>=◌, changed_row}
+use Rattle.request_types.specs.Refusal.{◌>>=◌}
+use Rattle.find_modify.specs.Cells.{changed_row}
 use Rattle.find_modify.specs.Change.{unless_refused, with_instead, deletes, changed_one, changed_all}
 use Rattle.table_rows.specs.Database.{rows_alone, rows_in}
 use Rattle.table_rows.proofs.Alone.{bytes_of, total_alone}

@@ -2,12 +2,10 @@
 --     find_within, find_numbers      the table of a find, and its columns
 --     slots_are      the slots that it selects
 --     ends_last      the last of all items ends its run
-use Rattle.std.proofs.Common.{◌≡◌, ℕ, zero, suc, ◌+◌, ◌<◌, true, not, List, [], ◌∷◌, length, drop, refl, ap, subst, arith, ◌≤◌}
-use Rattle.std.specs.List.{All, list_any}
-use Rattle.std.proofs.lemmas.Bool.{and_from}
+use Rattle.std.proofs.Common.{◌≡◌, ℕ, zero, suc, ◌+◌, ◌<◌, true, List, [], ◌∷◌, length, drop, refl, subst, arith, ◌≤◌}
+use Rattle.std.specs.List.{All}
 use Rattle.std.proofs.lemmas.List.Elements.{recursion_from_All}
 use Rattle.row_types.specs.declared.tables.TableDef.{TableDef}
-use Rattle.row_types.specs.Valid.{are_distinct}
 use Rattle.request_types.specs.declared.finds.FindSpec.{FindSpec}
 use Rattle.request_types.specs.Fits.{AreNumbers, FindFits, FindFitsTable}
 use Rattle.request_types.proofs.FitFacts.{is_within, holds_there}
@@ -16,9 +14,7 @@ use Rattle.table_rows.specs.Rows.{State, no_table, columns_of}
 use Rattle.table_rows.specs.Slots.{is_live_in}
 use Rattle.table_rows.specs.Valid.{AreValidRows, IsValidState}
 use Rattle.table_rows.proofs.States.{zip_long}
-use Rattle.table_rows.proofs.Passing.{none_any}
-use Rattle.find_scan.specs.Select.{AreDistinct}
-use Rattle.find_modify.specs.Change.{same_slot, AreSlots}
+use Rattle.table_rows.specs.Named.{AreDistinct, AreSlots}
 use Rattle.request_types.specs.declared.batches.Item.{Item}
 use Rattle.batch_answers.specs.Steps.{ends_run}
 
@@ -31,16 +27,10 @@ module _ (state : State) (valid : IsValidState state) (find : FindSpec) (fits : 
   pub find_numbers : AreNumbers (columns_of state find.table) find.columns
   find_numbers = (holds_there (λ (t : TableDef). FindFitsTable t find) state.schema.tables find.table no_table fits).columns
 
-distinct_once : (slots : List SlotRef) → AreDistinct slots → are_distinct same_slot slots ≡ true
-distinct_once [] apart = refl
-distinct_once (slot ∷ slots) apart =
-    and_from (not (list_any (λ (other : SlotRef). same_slot other slot) slots)) (are_distinct same_slot slots)
-    (ap not (none_any (λ (other : SlotRef). same_slot other slot) slots apart.0)) (distinct_once slots apart.1)
-
 pub slots_are : (state : State) (table : ℕ) (slots : List SlotRef) → All (λ (slot : SlotRef). is_live_in state table slot.0 ≡ true) slots → AreDistinct slots → AreSlots state table slots
 slots_are state table slots live apart = record {
   live = recursion_from_All (λ (slot : SlotRef). is_live_in state table slot.0 ≡ true) slots live;
-  once = distinct_once slots apart;
+  once = apart;
 }
 
 pub ends_last : (items : List Item) (place : ℕ) → length items ≤ place + 1 → true ≡ ends_run (drop place items)

@@ -2,7 +2,6 @@ pub mod Moved
 pub mod Chosen
 pub mod Changed
 pub mod Named
-pub mod Going
 pub mod Runs
 pub mod Asked
 pub mod Written

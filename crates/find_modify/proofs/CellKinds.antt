@@ -21,6 +21,7 @@ use Rattle.request_types.specs.declared.mods.ModSpec.{ModSpec}
 use Rattle.request_types.specs.Fits.{IsOfKind, IsAt, AreAt, AreNumbers, ValuesFit, ModFitsTable}
 use Rattle.request_types.proofs.FitFacts.{holds_there}
 use Rattle.request_types.specs.declared.codes.Code.{Code}
+use Rattle.request_types.specs.Refusal.{◌>>=◌}
 use Rattle.request_types.specs.declared.codes.Code.TheVariants.{Range}
 use Rattle.table_rows.specs.Rows.{State, columns_of, entries_of}
 use Rattle.table_rows.specs.Slots.{is_live, row_at, row_of}
@@ -30,7 +31,7 @@ use Rattle.table_rows.proofs.BySlot.{found}
 use Rattle.table_rows.proofs.States.{rows_valid, zip_set, zip_at, zip_long}
 use Rattle.row_insert.specs.Refusal.{IsOfKinds}
 use Rattle.row_insert.proofs.ValueKinds.{of_kind, fine_kind}
-use Rattle.find_modify.specs.Cells.{◌>>=◌, held, is_outside, turns, added, taken_off, changed_cell, changed_row}
+use Rattle.find_modify.specs.Cells.{held, is_outside, turns, added, taken_off, changed_cell, changed_row}
 
 -- the row in a slot
 whole_kinds : (columns : List Column) (row : List Value) → IsRow columns row → IsOfKinds columns row

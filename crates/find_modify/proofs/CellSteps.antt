@@ -7,7 +7,8 @@ use Rattle.row_types.specs.declared.values.Value.{Value}
 use Rattle.row_types.specs.declared.values.Value.TheVariants as values
 use Rattle.request_types.specs.declared.mods.ModKind.{ModKind}
 use Rattle.request_types.specs.declared.codes.Code.{Code}
-use Rattle.find_modify.specs.Cells.{◌>>=◌, changed_cell, changed_row}
+use Rattle.request_types.specs.Refusal.{◌>>=◌}
+use Rattle.find_modify.specs.Cells.{changed_cell, changed_row}
 
 module _ (kind : ModKind) (numbers : List ℕ) (named cells row : List Value) (place : ℕ) (within : place < length named) (few : length named ≤ length numbers) (inside : get_or numbers place 0 < length cells) where
   abbrev pub rest_from : List Value → Result (List Value) Code

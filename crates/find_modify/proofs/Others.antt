@@ -2,15 +2,15 @@
 --     live_without, live_with
 --     slots_rest
 use Rattle.std.proofs.Common.{◌≡◌, ◌≢◌, ℕ, ◌<◌, Bool, true, false, cond, not, ◌||◌, filter, List, [], ◌∷◌, ◌++◌, length, refl, ap, sym, ◌∙◌, inl, inr, ◌⊎◌}
+use Rattle.std.specs.Prelude.{◌==◌}
 use Rattle.std.specs.List.{AllByRecursion, list_any}
-use Rattle.std.proofs.lemmas.Bool.{true≢false, or_parts, and_parts, not-true, eqb-false, or_left, or_right, eqb-true, ne_eqb}
+use Rattle.std.proofs.lemmas.Bool.{true≢false, eqb-false, or_left, or_right, eqb-true, ne_eqb}
 use Rattle.std.proofs.lemmas.List.Folds.{list_any-append}
 use Rattle.index_tree.specs.Ordered.{is_below}
 use Rattle.row_types.specs.declared.values.Value.{Value}
 use Rattle.table_rows.specs.Entries.{Entry, entry_cmp}
-use Rattle.row_types.specs.Valid.{are_distinct}
 use Rattle.table_rows.specs.declared.slot_ref.SlotRef.{SlotRef}
-use Rattle.find_modify.specs.Change.{same_slot, AreSlots}
+use Rattle.table_rows.specs.Named.{AreSlots}
 use Rattle.table_rows.specs.Rows.{State, indexes_of, entries_of}
 use Rattle.table_rows.specs.Indexes.{primary_of}
 use Rattle.table_rows.specs.Slots.{is_in, is_live, is_live_in, without, with_row, with_row_at, without_at}
@@ -82,16 +82,9 @@ module _ (state : State) (table : ℕ) (within : table < length state.tables) (s
 
 -- the slots behind the one that was changed
 module _ (table : ℕ) (before after : State) (slot : SlotRef) (stay : (other : SlotRef) → other.0 ≢ slot.0 → is_live_in before table other.0 ≡ true → is_live_in after table other.0 ≡ true) where
-  all_stay : (slots : List SlotRef) → list_any (λ (other : SlotRef). same_slot other slot) slots ≡ false → AllByRecursion (λ (other : SlotRef). is_live_in before table other.0 ≡ true) slots → AllByRecursion (λ (other : SlotRef). is_live_in after table other.0 ≡ true) slots
+  all_stay : (slots : List SlotRef) → AllByRecursion (λ (other : SlotRef). (other.0 == slot.0) ≡ false) slots → AllByRecursion (λ (other : SlotRef). is_live_in before table other.0 ≡ true) slots → AllByRecursion (λ (other : SlotRef). is_live_in after table other.0 ≡ true) slots
   all_stay [] apart live = tt
-  all_stay (other ∷ slots) apart live =
-      let parts = or_parts (same_slot other slot) (list_any (λ (s : SlotRef). same_slot s slot) slots) apart in
-      (stay other (eqb-false other.0 slot.0 parts.0) live.0, all_stay slots parts.1 live.1)
+  all_stay (other ∷ slots) apart live = (stay other (eqb-false other.0 slot.0 apart.0) live.0, all_stay slots apart.1 live.1)
 
   pub slots_rest : (slots : List SlotRef) → AreSlots before table (slot ∷ slots) → AreSlots after table slots
-  slots_rest slots are =
-      let parts = and_parts (not (list_any (λ (s : SlotRef). same_slot s slot) slots)) (are_distinct same_slot slots) are.once in
-      record {
-        live = all_stay slots (not-true (list_any (λ (s : SlotRef). same_slot s slot) slots) parts.0) are.live.1;
-        once = parts.1;
-      }
+  slots_rest slots are = record { live = all_stay slots are.once.0 are.live.1; once = are.once.1 }

@@ -7,12 +7,7 @@ use Rattle.request_types.specs.declared.mods.ModKind.{ModKind}
 use Rattle.request_types.specs.declared.mods.ModKind.TheVariants.{Update, Add, Subtract, Remove}
 use Rattle.request_types.specs.declared.codes.Code.{Code}
 use Rattle.request_types.specs.declared.codes.Code.TheVariants.{Range}
-
--- What follows, unless the change was refused before.
-infixl 10 ◌>>=◌
-abbrev pub ◌>>=◌ : {A B : Type 0} → Result A Code → (A → Result B Code) → Result B Code
-(Ok x) >>= f = f x
-(Err code) >>= f = Err code
+use Rattle.request_types.specs.Refusal.{◌>>=◌}
 
 -- Whether a number is none of 64 bits.
 abbrev pub is_outside : ℤ → Bool

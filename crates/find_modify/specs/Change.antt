@@ -1,32 +1,19 @@
 -- What a change of selected rows leaves.
-use Rattle.std.specs.Prelude.{◌≡◌, ℕ, Bool, true, false, ◌==◌, List, [], ◌∷◌, length, take, Option, Some, None, Result, Ok, Err, if◌then◌else◌}
-use Rattle.std.specs.List.{AllByRecursion}
+use Rattle.std.specs.Prelude.{ℕ, Bool, true, false, List, [], ◌∷◌, length, Option, Some, None, Result, Ok, Err, if◌then◌else◌}
 use Rattle.row_types.specs.declared.values.Value.{Value}
-use Rattle.row_types.specs.Valid.{are_distinct}
 use Rattle.request_types.specs.declared.mods.ModKind.{ModKind}
 use Rattle.request_types.specs.declared.mods.ModKind.TheVariants.{Update, Add, Subtract, Remove}
 use Rattle.request_types.specs.declared.mods.ModSpec.{ModSpec}
 use Rattle.request_types.specs.declared.codes.Code.{Code}
 use Rattle.request_types.specs.Code.{number}
+use Rattle.request_types.specs.Refusal.{◌>>=◌}
 use Rattle.table_rows.specs.declared.slot_ref.SlotRef.{SlotRef}
-use Rattle.table_rows.specs.declared.undo.Undo.{Undo}
 use Rattle.table_rows.specs.Rows.{State}
-use Rattle.table_rows.specs.Slots.{is_live_in, row_at, with_row_at, without_at}
-use Rattle.table_rows.specs.Widths.{IsWidened}
-use Rattle.table_rows.specs.Undoing.{since, LeadsBack}
+use Rattle.table_rows.specs.Slots.{row_at, with_row_at, without_at}
 use Rattle.row_insert.specs.Refusal.{refusal_of}
 use Rattle.find_modify.specs.declared.modifies.Modified.{Modified}
 use Rattle.find_modify.specs.declared.modifies.Modified.TheVariants.{Done, Refused}
-use Rattle.find_modify.specs.Cells.{◌>>=◌, changed_row}
-
--- Whether two names are of one slot.
-abbrev pub same_slot : SlotRef → SlotRef → Bool
-same_slot a b = a.0 == b.0
-
--- Each of these slots has a row, and none is named twice.
-pub record AreSlots (state : State) (table : ℕ) (slots : List SlotRef) : Type 0 where
-  pub live : AllByRecursion (λ (slot : SlotRef). is_live_in state table slot.0 ≡ true) slots
-  pub once : are_distinct same_slot slots ≡ true
+use Rattle.find_modify.specs.Cells.{changed_row}
 
 -- What there is, unless it is refused.
 abbrev pub unless_refused : {A : Type 0} → Option Code → A → Result A Code
@@ -62,15 +49,3 @@ changed_all table columns change (slot ∷ slots) state =
 abbrev pub answer_to : List SlotRef → Result State Code → Modified
 answer_to slots (Ok state) = Done (length slots)
 answer_to slots (Err code) = Refused (number code)
-
--- The rows are what the change makes of them, and its parts were noted, so that they can be taken back.
--- Slots may have been added before.
-pub record IsDone (table : ℕ) (made : Result State Code) (before after : State) (undos more : List Undo) :
-    Type 0 where
-  pub final : State
-  pub made_is : made ≡ Ok final
-  pub wider : IsWidened table final after
-  pub between : State
-  pub widened : IsWidened table before between
-  pub noted : take (length undos) more ≡ undos
-  pub back : LeadsBack (since (length undos) more) after between

@@ -1,11 +1,10 @@
 //! The cells of a row, as a change leaves them.
 ghost use Rattle.std.specs.Prelude.{◌≡◌, ◌≤◌, ◌<◌, length};
 ghost use Rattle.std.specs.List.{All};
+ghost use Rattle.request_types.specs.Refusal.{Gives};
 ghost use Rattle.find_modify.specs.Cells.{turns, added, taken_off, changed_cell, changed_row};
-ghost use Rattle.find_modify.specs.Steps.{Gives};
 
-use crate::faults::Fault;
-use request_types::{Code, ModKind, ModSpec};
+use request_types::{Code, Fault, ModKind, ModSpec};
 use row_types::{List, Row, Value, copy_row, copy_value};
 use std::alloc::Global;
 use std::mem::replace;

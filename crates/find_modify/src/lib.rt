@@ -9,13 +9,12 @@
 //!
 //! The rows are changed in the order of their slots' list, each as the tables are by then. The first row that is
 //! refused ends the change with its code: 18 where a number would be outside 64 bits, and else one of those that
-//! `row_insert` has. The rows are then as they were before. All memory but that for the new rows is taken before the
-//! first change. Selecting rows is the work of `find_scan`. `worked_cells` and `worked_changes` show what the contracts'
+//! `row_insert` has. The rows are then as they were before. Room for the notes is taken before the first change, and no
+//! slot is added. Selecting rows is the work of `find_scan`. `worked_cells` and `worked_changes` show what the contracts'
 //! words mean, by examples that are proved.
 #![tactic(auto)]
 
 mod cells;
-mod faults;
 mod laws;
 mod modifies;
 mod one_row;

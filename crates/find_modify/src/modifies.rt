@@ -1,15 +1,16 @@
 //! Changing the rows in some slots.
 ghost use Rattle.std.specs.Prelude.{◌≡◌, ◌≢◌, ℕ, ◌≤◌, ◌<◌, ◌^◌, length, Ok, IfOk};
+ghost use Rattle.request_types.specs.Refusal.{Gives};
 ghost use Rattle.request_types.specs.Fits.{AreNumbers, ModFits, ModFitsTable};
 ghost use Rattle.table_rows.specs.Rows.{def_of, columns_of};
-ghost use Rattle.row_insert.specs.Insert.{IsUnchanged};
+ghost use Rattle.table_rows.specs.GoingBack.{IsNoted};
+ghost use Rattle.table_rows.specs.Named.{AreSlots};
 ghost use Rattle.find_modify.specs.declared.modifies.Modified.TheVariants.{Done};
-ghost use Rattle.find_modify.specs.Change.{AreSlots, changed_all, answer_to, IsDone};
-ghost use Rattle.find_modify.specs.Steps.{Gives, IsAnswer, AreSteps};
+ghost use Rattle.find_modify.specs.Change.{changed_all, answer_to};
+ghost use Rattle.find_modify.specs.Steps.{IsAnswer};
 
-use crate::faults::Fault;
 use crate::one_row::change_one;
-use request_types::ModSpec;
+use request_types::{Fault, ModSpec};
 use std::alloc::{AllocError, Global};
 use table_rows::{SlotRef, Tables, UndoList};
 
@@ -37,18 +38,17 @@ pub fn modify(
     requires change { ModFits tables.old.schema table columns.now change.now }
     ensures answer { IfOk result (λ answer. answer
         ≡ answer_to slots.now (changed_all table columns.now change.now slots.now tables.old)) }
-    ensures done { (count : ℕ) → result ≡ Ok (Done count) → IsDone table
-        (changed_all table columns.now change.now slots.now tables.old)
-        tables.old tables.new undo.old.entries undo.new.entries }
-    ensures schema { tables.new.schema ≡ tables.old.schema }
-    // Where a row is refused, or memory is wanting, all rows are as they were.
-    ensures unchanged { ((count : ℕ) → result ≢ Ok (Done count)) → IsUnchanged table
-        tables.old tables.new undo.old.entries undo.new.entries }
+    ensures done { (count : ℕ) → result ≡ Ok (Done count)
+        → changed_all table columns.now change.now slots.now tables.old ≡ Ok tables.new }
+    ensures noted { IsNoted tables.old tables.new undo.old.entries undo.new.entries }
+    // Where a row is refused, or memory is wanting, all rows are as they were, and no change is noted.
+    ensures unchanged { ((count : ℕ) → result ≢ Ok (Done count))
+        → (tables.new ≡ tables.old) × (undo.new.entries ≡ undo.old.entries) }
 {
     // A proof knows that the rows are valid where it has asked for their shape.
     let _ = tables.schema();
     let mark = undo.mark();
-    tables.reserve(table, slots.len() as u32, undo)?;
+    undo.reserve(slots.len() as u32)?;
     match change_all(alloc, tables, table, slots, columns, change, undo) {
         Ok(()) => Ok(Modified::Done(slots.len() as u32)),
         Err(fault) => {
@@ -75,7 +75,7 @@ fn change_all(
     requires spare { length slots.now ≤ undo.old.spare }
     ensures gives { Gives (λ nothing. tables.new) result
         (changed_all table columns.now change.now slots.now tables.old) }
-    ensures steps { AreSteps tables.old tables.new undo.old.entries undo.new.entries }
+    ensures noted { IsNoted tables.old tables.new undo.old.entries undo.new.entries }
 {
     for slot in slots {
         change_one(alloc, tables, table, *slot, columns, change, undo)?;

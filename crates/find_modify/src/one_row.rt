@@ -1,15 +1,15 @@
 //! One row, as a change leaves it.
 ghost use Rattle.std.specs.Prelude.{◌≡◌, ◌≢◌, ◌+◌, ◌≤◌, ◌<◌, length, true};
+ghost use Rattle.request_types.specs.Refusal.{Gives};
 ghost use Rattle.request_types.specs.Fits.{AreNumbers, ModFitsTable};
 ghost use Rattle.table_rows.specs.declared.slot_ref.SlotRef.{SlotRef as Slot};
 ghost use Rattle.table_rows.specs.Rows.{def_of, columns_of};
 ghost use Rattle.table_rows.specs.Slots.{is_live_in};
+ghost use Rattle.table_rows.specs.GoingBack.{IsNoted};
 ghost use Rattle.find_modify.specs.Change.{deletes, changed_one};
-ghost use Rattle.find_modify.specs.Steps.{Gives, AreSteps};
 
 use crate::cells::changed_row;
-use crate::faults::Fault;
-use request_types::{ModKind, ModSpec};
+use request_types::{Fault, ModKind, ModSpec};
 use row_insert::refusal_of;
 use std::alloc::Global;
 use table_rows::{SlotRef, Tables, UndoList};
@@ -31,7 +31,7 @@ pub(crate) fn change_one(
     requires spare { 0 < undo.old.spare }
     ensures gives { Gives (λ nothing. tables.new) result
         (changed_one table columns.now change.now slot tables.old) }
-    ensures steps { AreSteps tables.old tables.new undo.old.entries undo.new.entries }
+    ensures noted { IsNoted tables.old tables.new undo.old.entries undo.new.entries }
     ensures others { (other : Slot) → other.0 ≢ slot.0
         → is_live_in tables.old table other.0 ≡ true → is_live_in tables.new table other.0 ≡ true }
     ensures spare { undo.old.spare ≤ undo.new.spare + 1 }

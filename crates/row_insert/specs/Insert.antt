@@ -1,5 +1,5 @@
 -- The row that an insert makes, and what it leaves.
-use Rattle.std.specs.Prelude.{◌≡◌, ℕ, suc, ◌==◌, List, [], ◌∷◌, ◌++◌, length, Option, Some, None, if◌then◌else◌}
+use Rattle.std.specs.Prelude.{◌≡◌, ℕ, suc, ◌==◌, List, [], ◌∷◌, ◌++◌, Option, Some, None, if◌then◌else◌}
 use Rattle.row_types.specs.declared.values.Value.{Value}
 use Rattle.row_types.specs.declared.columns.Column.{Column}
 use Rattle.request_types.specs.declared.codes.Code.{Code}
@@ -9,8 +9,7 @@ use Rattle.table_rows.specs.declared.undo.Undo.{Undo}
 use Rattle.table_rows.specs.declared.undo.Undo.TheVariants.{Put}
 use Rattle.table_rows.specs.Rows.{State, rows_of}
 use Rattle.table_rows.specs.Slots.{IsVacant, with_row_at}
-use Rattle.table_rows.specs.Widths.{IsWidened}
-use Rattle.table_rows.specs.Undoing.{since, LeadsBack}
+use Rattle.table_rows.specs.Widths.{with_slots}
 use Rattle.row_insert.specs.declared.inserts.Inserted.{Inserted}
 use Rattle.row_insert.specs.declared.inserts.Inserted.TheVariants.{Done, Refused}
 
@@ -36,18 +35,10 @@ abbrev pub answer_to : Option Code → Inserted
 answer_to None = Done
 answer_to (Some code) = Refused (number code)
 
--- The row was put into a slot that was vacant, or was added for it, and the change was noted.
+-- The row stands in a slot that was vacant once there was one at least, and its coming is noted.
 pub record IsPut (table : ℕ) (row : List Value) (before after : State) (undos more : List Undo) :
     Type 0 where
-  pub between : State
-  pub widened : IsWidened table before between
   pub slot : ℕ
-  pub vacant : IsVacant slot (rows_of between table)
-  pub put : after ≡ with_row_at between table slot row
+  pub vacant : IsVacant slot (rows_of (with_slots before table 1) table)
+  pub put : after ≡ with_row_at (with_slots before table 1) table slot row
   pub noted : more ≡ undos ++ Put table (record { 0 = slot }) ∷ []
-  pub back : LeadsBack (since (length undos) more) after between
-
--- No row came or went, and no change was noted. Slots may have been added for a row.
-pub record IsUnchanged (table : ℕ) (before after : State) (undos more : List Undo) : Type 0 where
-  pub rows : IsWidened table before after
-  pub noted : more ≡ undos

@@ -2,8 +2,9 @@
 ghost use Rattle.std.specs.Prelude.{◌≡◌, ◌≢◌, IfOk, Ok, None};
 ghost use Rattle.request_types.specs.Fits.{InsertFits};
 ghost use Rattle.table_rows.specs.Rows.{columns_of};
+ghost use Rattle.table_rows.specs.GoingBack.{CanGoBack};
 ghost use Rattle.row_insert.specs.Refusal.{refusal_of};
-ghost use Rattle.row_insert.specs.Insert.{new_row, answer_to, IsPut, IsUnchanged};
+ghost use Rattle.row_insert.specs.Insert.{new_row, answer_to, IsPut};
 ghost use Rattle.row_insert.specs.declared.inserts.Inserted.TheVariants.{Done};
 
 use crate::new_rows::new_row;
@@ -37,9 +38,10 @@ pub fn insert(
         (new_row (columns_of tables.old spec.now.table) spec.now)
         tables.old tables.new undo.old.entries undo.new.entries }
     ensures schema { tables.new.schema ≡ tables.old.schema }
-    // A row that is refused, or that no memory is there for, leaves all rows as they were.
-    ensures unchanged { result ≢ Ok Done → IsUnchanged spec.now.table
-        tables.old tables.new undo.old.entries undo.new.entries }
+    ensures back { CanGoBack tables.old tables.new undo.old.entries undo.new.entries }
+    // A row that is refused, or that no memory is there for, leaves all as it was, and nothing is noted.
+    ensures unchanged { result ≢ Ok Done
+        → (tables.new ≡ tables.old) × (undo.new.entries ≡ undo.old.entries) }
 {
     // A proof knows that the tables are valid where it has asked for their shape.
     let _ = tables.schema();

@@ -1,19 +1,12 @@
-//! Lines of inserts on a table of people, and what becomes of them. The codes and the rows follow from the rules, and none
-//! comes from a run.
+//! What no contract says: that there is memory for rows that come.
 ghost use Rattle.std.specs.Prelude.{◌≡◌, [], ◌∷◌, IfOk, pos, true, false};
 ghost use Rattle.row_types.specs.declared.values.Value.TheVariants as values;
-ghost use Rattle.table_rows.specs.Sizes.{most_bytes};
-ghost use Rattle.open_index.specs.Fits.{HandlesFit};
-ghost use Rattle.row_insert.specs.Examples.{people, people_columns, people_indexes};
+ghost use Rattle.row_insert.specs.Examples.{people, people_columns, people_indexes, insert_of};
 
 use super::*;
-use bytes::Bytes;
-use open_index::{Auth, Handles, Resolved, handles_new, resolve, schemas_that_fit};
-use request_types::{Port, Request};
-use table_rows::Edge;
-use row_types::{ByteText, Column, IndexDef, IndexKind, Kind, List, Row, Schema, TableDef, Value};
+use request_types::InsertSpec;
+use row_types::{ByteText, Column, IndexDef, IndexKind, Kind, List, Schema, TableDef, Value};
 use std::alloc::{AllocError, Global};
-use std::fmt::Write;
 use std::test::Fail;
 use table_rows::{Tables, UndoList};
 
@@ -79,138 +72,40 @@ fn schema(alloc: Global) -> Result<Schema, AllocError>
     Ok(Schema { tables })
 }
 
-/// The code that a line is answered with, and 0 for none.
-fn told(
-    alloc: Global,
-    tables: &mut Tables,
-    schema: &Schema,
-    handles: &mut Handles,
-    undo: &mut UndoList,
-    line: &[u8],
-) -> Result<u32, AllocError>
-    requires schema { schema.now ≡ tables.old.schema }
-    requires handles { HandlesFit schema.now handles.old }
-    ensures schema { tables.new.schema ≡ tables.old.schema }
-    ensures handles { HandlesFit schema.now handles.new }
+// An insert of a person.
+fn person(alloc: Global, id: i64, name: &[u8]) -> Result<InsertSpec, AllocError>
+    ensures { IfOk result (λ spec. spec
+        ≡ insert_of (0 ∷ 1 ∷ []) (values.Int id ∷ values.Text name.now ∷ [])) }
 {
-    // A proof knows that the schema is valid where it has asked the tables for theirs.
-    let _ = tables.schema();
-    schemas_that_fit();
-    let mut auth = Auth {
-        secret: None,
-        passed: false,
-    };
-    let line = Bytes::from_vec(Vec::from_slice(alloc, line)?)?;
-    match resolve(alloc, schema, Port::Writing, handles, &mut auth, &line)? {
-        Resolved::Ask(Request::Insert(spec)) => match insert(alloc, tables, schema, &spec, undo)? {
-            Inserted::Done => Ok(0),
-            Inserted::Refused(code) => Ok(code),
-        },
-        Resolved::Reply(code) => Ok(code),
-        Resolved::Opened | Resolved::Authed | Resolved::Ask(_) => Ok(0),
-    }
+    let mut named = List::new(alloc);
+    named.push(Value::Int(id))?;
+    named.push(Value::Text(ByteText::of(alloc, name)?))?;
+    Ok(InsertSpec {
+        table: 0,
+        columns: List::of_vec(Vec::from_slice(alloc, &[0, 1])?),
+        values: named,
+    })
 }
-
-/// The rows, in the order of their ids.
-fn shown(alloc: Global, tables: &Tables) -> Result<String, AllocError>
-    requires { tables.now.schema ≡ people }
-{
-    let mut out = String::new(alloc);
-    let _ = tables.schema();
-    let mut next = tables.seek(0, 0, &Edge::Open, false);
-    for _ in 0..tables.count(0) {
-        let Some(slot) = next else {
-            return Ok(out);
-        };
-        show_row(&mut out, tables.row(0, slot))?;
-        next = tables.step(0, 0, slot, false);
-    }
-    Ok(out)
-}
-
-fn show_row(out: &mut String, row: &Row) -> Result<(), AllocError> {
-    for value in row.as_slice() {
-        show_value(out, value)?;
-    }
-    out.push_str("|")
-}
-
-fn show_value(out: &mut String, value: &Value) -> Result<(), AllocError> {
-    match value {
-        Value::Null => out.push_str("- "),
-        Value::Int(number) => Ok(write!(out, "{number} ")?),
-        Value::Text(text) => {
-            for byte in text.as_slice() {
-                out.push(*byte as char)?;
-            }
-            out.push_str(" ")
-        }
-    }
-}
-
-const PEOPLE: &[u8] = b"P\t1\ttest\tt\tPRIMARY\tid,name,n";
-
-const IDS: &[u8] = b"P\t2\ttest\tt\tPRIMARY\tid";
-
-const BACKWARD: &[u8] = b"P\t3\ttest\tt\tPRIMARY\tn,id";
 
 #[test]
-fn rows_come_or_are_refused(rt: HostRuntime) -> Result<(), Fail> {
+fn rows_find_memory(rt: HostRuntime) -> Result<(), Fail> {
     let alloc = rt.alloc();
     worked_rows();
     let schema = schema(alloc)?;
     let mut tables = Tables::new(alloc, &schema, 261)?;
-    let mut handles = handles_new(alloc);
     let mut undo = UndoList::list_new(alloc);
-    for (line, code, rows) in [
-        (PEOPLE, 0, ""),
-        (IDS, 0, ""),
-        (BACKWARD, 0, ""),
-        (b"1\t+\t3\t1\tann\t5", 0, "1 ann 5 |"),
-        // The same id, and the same name.
-        (b"1\t+\t3\t1\tbob\t5", 16, "1 ann 5 |"),
-        (b"1\t+\t3\t2\tann\t5", 16, "1 ann 5 |"),
-        // NULL in the id, beside a text that is too long, and beside the same name.
-        (b"1\t+\t1\t\x00", 17, "1 ann 5 |"),
-        (b"1\t+\t3\t\x00\talice\t5", 15, "1 ann 5 |"),
-        (b"1\t+\t3\t\x00\tann\t5", 17, "1 ann 5 |"),
-        // What isn't named has its preset, and NULL is no NULL's clash.
-        (b"2\t+\t1\t0", 0, "0 - 0 |1 ann 5 |"),
-        (b"3\t+\t2\t-7\t3", 0, "0 - 0 |1 ann 5 |3 - -7 |"),
-        // 87, 81 and 81 bytes of 261: 12 are left, and the next row has 81.
-        (b"2\t+\t1\t4", 19, "0 - 0 |1 ann 5 |3 - -7 |"),
-        // A clash is found before that.
-        (b"2\t+\t1\t3", 16, "0 - 0 |1 ann 5 |3 - -7 |"),
+    // Rows of 87 bytes, of which three have room.
+    for (id, name, becomes) in [
+        (1, b"ann".as_slice(), Inserted::Done),
+        (1, b"bob", Inserted::Refused(16)),
+        (2, b"alice", Inserted::Refused(15)),
+        (2, b"bob", Inserted::Done),
+        (3, b"eve", Inserted::Done),
+        (4, b"joe", Inserted::Refused(19)),
     ] {
-        assert_eq!(rt;
-            told(alloc, &mut tables, &schema, &mut handles, &mut undo, line)?,
-            code
-        );
-        assert_eq!(rt; shown(alloc, &tables)?.as_str(), rows);
-    }
-    assert_eq!(rt; undo.mark(), 3);
-    Ok(())
-}
-
-#[test]
-fn a_row_fits_at_the_exact_byte(rt: HostRuntime) -> Result<(), Fail> {
-    let alloc = rt.alloc();
-    worked_rows();
-    let schema = schema(alloc)?;
-    for (bytes_max, code) in [(174, 0), (173, 19), (87, 19), (200, 0)] {
-        let mut tables = Tables::new(alloc, &schema, bytes_max)?;
-        let mut handles = handles_new(alloc);
-        let mut undo = UndoList::list_new(alloc);
-        for (line, code) in [
-            (PEOPLE, 0),
-            (b"1\t+\t3\t1\tann\t5", 0),
-            (b"1\t+\t3\t2\tbob\t5", code),
-        ] {
-            assert_eq!(rt;
-                told(alloc, &mut tables, &schema, &mut handles, &mut undo, line)?,
-                code
-            );
-        }
+        let spec = person(alloc, id, name)?;
+        let inserted = insert(alloc, &mut tables, &schema, &spec, &mut undo)?;
+        assert_eq!(rt; inserted, becomes);
     }
     Ok(())
 }

@@ -9,8 +9,8 @@ ghost use Rattle.batch_answers.specs.Examples.{people_columns, people_indexes, b
 
 use crate::{run_batch, worked_answers};
 use bytes::Bytes;
-use request_types::{Batch, ConnId, Item, ItemKind, Port, Replies};
 use open_index::{Auth, Handles, Resolved, handles_new, resolve_shared, schemas_that_fit};
+use request_types::{Batch, ConnId, Item, ItemKind, Port, Replies};
 use row_types::{ByteText, Column, IndexDef, IndexKind, Kind, List, Schema, TableDef, Value};
 use std::alloc::{AllocError, Global};
 use std::mem::replace;

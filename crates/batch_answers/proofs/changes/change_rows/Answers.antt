@@ -1,10 +1,11 @@
 use Rattle.std.proofs.Common.{length, ap, sym, subst, ◌∙◌}
 use Rattle.request_types.specs.Fits.{AreNumbers}
 use Rattle.table_rows.specs.Rows.{columns_of}
+use Rattle.table_rows.proofs.Roomier.{roomier_itself}
+use Rattle.table_rows.proofs.GoingBack.{goes_noted}
 use Rattle.find_modify.specs.Change.{changed_all}
 use Rattle.batch_answers.proofs.Asked.{count_chosen, made_is, count_is}
 use Rattle.batch_answers.proofs.Fits.{find_within, find_numbers, slots_are}
-use Rattle.batch_answers.proofs.Going.{back_modified}
 use Rattle.batch_answers.proofs.changes.change_rows.Goals as goal
 
 pub modify-requires-clause-slots : goal.modify-requires-clause-slots
@@ -30,6 +31,5 @@ returns-clause-count c count ok =
 
 pub returns-clause-back : goal.returns-clause-back
 returns-clause-back c =
-    let made = changed_all c.args.find.now.table c.as_slice-columns.result.now c.args.change.now c.args.slots.now c.args.tables.now in
-    back_modified c.args.find.now.table made c.args.tables.now c.modify.new.tables c.args.undo.now.entries c.modify.new.undo.entries
-    c.modify.result c.modify.ensures.done c.modify.ensures.unchanged
+    goes_noted c.args.tables.now c.args.tables.now c.modify.new.tables c.args.undo.now.entries c.modify.new.undo.entries
+    (roomier_itself c.args.tables.now) c.modify.ensures.noted

@@ -1,30 +1,18 @@
 use Rattle.std.proofs.Common.{Ok, ◌++◌, ap, sym, ◌∙◌}
 use Rattle.std.proofs.lemmas.Result.{on_ok_weaker}
-use Rattle.table_rows.specs.Rows.{columns_of}
 use Rattle.row_insert.specs.declared.inserts.Inserted.TheVariants.{Done, Refused}
-use Rattle.row_insert.specs.Insert.{new_row}
 use Rattle.row_insert.proofs.Inserting.{insert_within}
 use Rattle.batch_answers.proofs.Asked.{insert_is}
-use Rattle.batch_answers.proofs.Going.{back_inserted}
 use Rattle.batch_answers.proofs.inserts.answer_insert.Goals as goal
 
 pub returns-in_err-insert-clause-back : goal.returns-in_err-insert-clause-back
-returns-in_err-insert-clause-back c =
-    let row = new_row (columns_of c.args.tables.now c.args.spec.now.table) c.args.spec.now in
-    back_inserted c.args.spec.now.table row c.args.tables.now c.insert.new.tables c.args.undo.now.entries c.insert.new.undo.entries
-    c.insert.result c.insert.ensures.put c.insert.ensures.unchanged
+returns-in_err-insert-clause-back c = c.insert.ensures.back
 
 pub returns-in-Done-clause-back : goal.returns-in-Done-clause-back
-returns-in-Done-clause-back c =
-    let row = new_row (columns_of c.args.tables.now c.args.spec.now.table) c.args.spec.now in
-    back_inserted c.args.spec.now.table row c.args.tables.now c.insert.new.tables c.args.undo.now.entries c.insert.new.undo.entries
-    c.insert.result c.insert.ensures.put c.insert.ensures.unchanged
+returns-in-Done-clause-back c = c.insert.ensures.back
 
 pub returns-in-Refused-clause-back : goal.returns-in-Refused-clause-back
-returns-in-Refused-clause-back c =
-    let row = new_row (columns_of c.args.tables.now c.args.spec.now.table) c.args.spec.now in
-    back_inserted c.args.spec.now.table row c.args.tables.now c.insert.new.tables c.args.undo.now.entries c.insert.new.undo.entries
-    c.insert.result c.insert.ensures.put c.insert.ensures.unchanged
+returns-in-Refused-clause-back c = c.insert.ensures.back
 
 pub returns-in-Done-clause-reply : goal.returns-in-Done-clause-reply
 returns-in-Done-clause-reply c =

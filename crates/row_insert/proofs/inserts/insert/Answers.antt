@@ -1,8 +1,15 @@
-use Rattle.std.proofs.Common.{List, None, ap, sym, subst, ◌∙◌}
+use Rattle.std.proofs.Common.{List, None, length, take, ap, sym, subst, ◌∙◌}
+use Rattle.std.proofs.Math.Seq.{take-append_seam}
 use Rattle.row_types.specs.declared.values.Value.{Value}
 use Rattle.row_types.specs.declared.columns.Column.{Column}
 use Rattle.row_types.specs.declared.tables.Schema.{Schema}
+use Rattle.table_rows.specs.declared.undo.Undo.{Undo}
 use Rattle.table_rows.specs.Rows.{columns_of}
+use Rattle.table_rows.specs.Widths.{IsWidened}
+use Rattle.table_rows.specs.GoingBack.{CanGoBack}
+use Rattle.table_rows.proofs.Wider.{slots_widened}
+use Rattle.table_rows.proofs.Roomier.{widened_roomier}
+use Rattle.table_rows.proofs.GoingBack.{noted_by, goes_none, goes_noted}
 use Rattle.row_insert.specs.Refusal.{IsOfKinds, refusal_of}
 use Rattle.row_insert.specs.Insert.{new_row, answer_to}
 use Rattle.row_insert.specs.declared.inserts.Inserted.TheVariants as answers
@@ -34,3 +41,25 @@ returns-in-Some-clause-answer c =
     let row = c.in_ok-row.ensures ∙ ap (λ (cs : List Column). new_row cs c.args.spec.now) columns in
     let found = sym c.in-Some.is ∙ c.refusal_of.ensures.refusal ∙ ap (λ (r : List Value). refusal_of state c.args.spec.now.table r None) row in
     ap answers.Refused c.number.ensures ∙ ap answer_to found
+
+pub returns-in_err-row-clause-back : goal.returns-in_err-row-clause-back
+returns-in_err-row-clause-back c = goes_none c.args.tables.now c.args.undo.now.entries
+
+pub returns-in-Some-clause-back : goal.returns-in-Some-clause-back
+returns-in-Some-clause-back c = goes_none c.args.tables.now c.args.undo.now.entries
+
+pub returns-in_err-reserve-clause-back : goal.returns-in_err-reserve-clause-back
+returns-in_err-reserve-clause-back c =
+    rw (c.in_err-reserve.ensures.err, c.in_err-reserve.ensures.entries) (goes_none c.args.tables.now c.args.undo.now.entries)
+
+pub returns-clause-back : goal.returns-clause-back
+returns-clause-back c =
+    let state = c.args.tables.now in
+    let table = c.args.spec.now.table in
+    let within = insert_within state c.schema.ensures.valid c.args.schema.now c.requires.schema c.args.spec.now c.requires.spec in
+    let wide = subst (IsWidened table state) (sym c.in_ok-reserve.ensures.ok) (slots_widened state table within 1) in
+    let undos = c.reserve.new.undo.entries in
+    let pushed = c.put.ensures.put.3 in
+    let noted = noted_by c.reserve.new.self c.put.new.self undos c.put.new.undo.entries (ap (take (length undos)) pushed ∙ take-append_seam undos _) c.put.ensures.back in
+    subst (λ (us : List Undo). CanGoBack state c.put.new.self us c.put.new.undo.entries) c.in_ok-reserve.ensures.entries
+    (goes_noted state c.reserve.new.self c.put.new.self undos c.put.new.undo.entries (widened_roomier table state c.reserve.new.self wide) noted)

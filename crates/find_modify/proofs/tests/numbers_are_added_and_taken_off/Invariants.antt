@@ -1,7 +1,0 @@
-use Rattle.std.proofs.Common.{◌≡◌}
-use Rattle.open_index.specs.Fits.{HandlesFit}
-use Rattle.row_insert.specs.Examples.{people}
-use Rattle.find_modify.proofs.tests.numbers_are_added_and_taken_off.Given as goal
-
-abbrev pub invariant-loop-line : goal.invariant-loop-line
-invariant-loop-line g l = (l.schema ≡ people) × (l.tables.schema ≡ people) × HandlesFit people l.handles
