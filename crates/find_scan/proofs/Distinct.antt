@@ -36,7 +36,8 @@ use Rattle.table_rows.specs.Walks.{walk_of}
 use Rattle.table_rows.proofs.BySlot.{HaveOwnSlots, other_slot, row_of_member}
 use Rattle.table_rows.proofs.Keys.{key_exact}
 use Rattle.table_rows.proofs.Pairs.{pairs_kept, pairs_put}
-use Rattle.find_scan.specs.Select.{is_asked, stands_to, directed, columns_for, matching, once, keys_of, found, by_step, kept, selected, slots_of, AreDistinct}
+use Rattle.find_scan.specs.Select.{is_asked, stands_to, directed, columns_for, matching, once, keys_of, found, by_step, kept, selected, slots_of}
+use Rattle.table_rows.specs.Named.{AreDistinct}
 use Rattle.find_scan.proofs.Chosen.{all_that_pass}
 
 abbrev IsApart : Entry → Entry → Type 0

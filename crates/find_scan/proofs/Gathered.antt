@@ -8,11 +8,11 @@ use Rattle.std.specs.List.{take_while}
 use Rattle.std.proofs.Math.Seq.{take-nil, drop-nil}
 use Rattle.std.proofs.lemmas.List.Sums.{take_while-cons}
 use Rattle.row_types.specs.declared.values.Value.{Value}
-use Rattle.table_rows.specs.Entries.{Entry}
+use Rattle.table_rows.specs.Entries.{Entry, has_key}
 use Rattle.request_types.specs.declared.filters.FilterSpec.{FilterSpec}
 use Rattle.table_rows.specs.declared.slot_ref.SlotRef.{SlotRef}
 use Rattle.find_scan.specs.Select.{kept, slots_of}
-use Rattle.find_scan.specs.Gathering.{Gathered, with_kept, gives, has_key, front_of}
+use Rattle.find_scan.specs.Gathering.{Gathered, with_kept, gives, front_of}
 
 -- where no more rows come, what was selected is selected
 pub none_more : (g : Gathered) → with_kept g [] ≡ g.slots

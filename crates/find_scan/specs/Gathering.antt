@@ -3,8 +3,8 @@ use Rattle.std.specs.Prelude.{ℕ, ◌<◌, Bool, true, false, not, List, ◌++�
 use Rattle.std.specs.List.{All, AllByRecursion, list_any, take_while}
 use Rattle.std.specs.Ordering.{is_eq}
 use Rattle.row_types.specs.declared.values.Value.{Value}
-use Rattle.row_types.specs.Order.{value_cmp, prefix_cmp}
-use Rattle.table_rows.specs.Entries.{Entry, cells}
+use Rattle.row_types.specs.Order.{value_cmp}
+use Rattle.table_rows.specs.Entries.{Entry, has_key}
 use Rattle.request_types.specs.declared.filters.FilterSpec.{FilterSpec}
 use Rattle.request_types.specs.declared.finds.FindOp.{FindOp}
 use Rattle.request_types.specs.declared.finds.FindOp.TheVariants.{Equal, Greater, GreaterEqual, Less, LessEqual}
@@ -30,10 +30,6 @@ gives filters gathered entries = with_kept gathered (kept filters entries)
 -- Each of these rows has the columns of the filters.
 abbrev pub AreWideFor : List FilterSpec → List Entry → Type 0
 AreWideFor filters entries = AllByRecursion (λ (entry : Entry). All (λ (f : FilterSpec). f.column < length entry.0) filters) entries
-
--- Whether the row's cells at the first of these columns are the key.
-abbrev pub has_key : List ℕ → List Value → List Value → Bool
-has_key columns key row = is_eq (prefix_cmp (cells columns row) key)
 
 -- The entries from the front on that have the key, where only such are asked for.
 abbrev pub front_of : Bool → List ℕ → List Value → List Entry → List Entry

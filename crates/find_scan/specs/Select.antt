@@ -1,5 +1,5 @@
 -- Which rows a find selects.
-use Rattle.std.specs.Prelude.{◌≡◌, ◌==◌, ℕ, Bool, false, not, List, [], ◌∷◌, ◌++◌, Option, Some, None, filter, map, reverse, take, drop, set}
+use Rattle.std.specs.Prelude.{ℕ, Bool, not, List, [], ◌∷◌, ◌++◌, Option, Some, None, filter, map, reverse, take, drop, set}
 use Rattle.std.specs.declared.cmp.Ordering.{Ordering}
 use Rattle.std.specs.Ordering.{is_lt, is_eq, is_gt}
 use Rattle.row_types.specs.declared.values.Value.{Value}
@@ -16,7 +16,6 @@ use Rattle.find_filter.specs.Filter.{step_of}
 use Rattle.table_rows.specs.declared.slot_ref.SlotRef.{SlotRef}
 use Rattle.table_rows.specs.Rows.{State, indexes_of}
 use Rattle.table_rows.specs.Indexes.{index_columns}
-use Rattle.table_rows.specs.Valid.{EachPair}
 use Rattle.table_rows.specs.Walks.{walk_of}
 
 -- How a row's index cells have to compare with the key.
@@ -79,10 +78,6 @@ kept filters (entry ∷ entries) = by_step (step_of entry.0 filters) entry (kept
 abbrev pub selected : State → FindSpec → List Entry
 selected state spec =
     take spec.limit (drop spec.offset (kept spec.filters (found state spec (keys_of spec.key spec.within))))
-
--- No slot comes twice.
-abbrev pub AreDistinct : List SlotRef → Type 0
-AreDistinct slots = EachPair (λ (a b : SlotRef). (b.0 == a.0) ≡ false) slots
 
 -- Where the rows are kept.
 abbrev pub slots_of : List Entry → List SlotRef

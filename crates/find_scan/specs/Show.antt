@@ -1,15 +1,12 @@
 -- What a find answers.
-use Rattle.std.specs.Prelude.{ℕ, List, [], ◌∷◌, ◌++◌, length, map, get_or}
+use Rattle.std.specs.Prelude.{ℕ, List, [], ◌∷◌, ◌++◌, length, map}
 use Rattle.std.specs.Fmt.{signed_decimal}
 use Rattle.hs_token.specs.declared.tokens.Token.{Token}
 use Rattle.hs_token.specs.declared.tokens.Token.TheVariants as tokens
 use Rattle.hs_token.specs.Spelling.{reply_line}
 use Rattle.row_types.specs.declared.values.Value.{Value}
 use Rattle.row_types.specs.declared.values.Value.TheVariants.{Null, Int, Text}
-
--- The value of a row at a column, which is NULL where the row is too short.
-abbrev pub cell_at : List Value → ℕ → Value
-cell_at row column = get_or row column Null
+use Rattle.table_rows.specs.Entries.{cell_at}
 
 -- The token of a cell: an integer in its printed form, a text as it is.
 abbrev pub cell_token : Value → Token

@@ -1,14 +1,13 @@
 //! The cells of a row, in a reply.
-ghost use Rattle.std.specs.Prelude.{◌≡◌, ◌∷◌, ◌++◌, OnOk, OnErr};
+ghost use Rattle.std.specs.Prelude.{◌≡◌, ◌∷◌, ◌++◌, map, OnOk, OnErr};
 ghost use Rattle.hs_token.specs.Spelling.{token_spelled, behind_tabs};
 ghost use Rattle.hs_token.specs.Steps.{Extends};
-ghost use Rattle.find_scan.specs.Show.{cell_at, cell_token, row_tokens};
+ghost use Rattle.table_rows.specs.Entries.{cell_at};
+ghost use Rattle.find_scan.specs.Show.{cell_token, row_tokens};
 
-use hs_token::{push_integer, push_text};
+use hs_token::{TAB, push_integer, push_text};
 use row_types::{Row, Value};
 use std::alloc::AllocError;
-
-const TAB: u8 = 0x09;
 
 /// Appends the cells of a row at some columns, each behind an HT, or a part of them where memory runs out.
 pub(crate) fn push_row(out: &mut Vec<u8>, row: &Row, columns: &[u32]) -> Result<(), AllocError>
@@ -44,4 +43,16 @@ pub fn push_cell(out: &mut Vec<u8>, cell: &Value) -> Result<(), AllocError>
         Value::Int(number) => push_integer(out, *number),
         Value::Text(text) => push_text(out, text.as_slice()),
     }
+}
+
+/// Appends cells, each behind an HT, or a part of them where memory runs out.
+pub fn push_cells(out: &mut Vec<u8>, cells: &[Value]) -> Result<(), AllocError>
+    ensures ok { OnOk result
+        (out.new.items ≡ out.old.items ++ behind_tabs (map cell_token cells.now)) }
+    ensures err { OnErr result (Extends out.old.items out.new.items) }
+{
+    for cell in cells {
+        push_cell(out, cell)?;
+    }
+    Ok(())
 }

@@ -12,14 +12,10 @@ ghost use Rattle.find_scan.specs.Rendering.{rows_at, rendered, shown, below};
 ghost use Rattle.find_scan.specs.declared.replies.Rendered.TheVariants.{Fits};
 
 use crate::cells::push_row;
-use hs_token::push_head;
+use crate::ends::MOST;
+use hs_token::{LINE_FEED, push_head};
 use std::alloc::AllocError;
 use table_rows::{SlotRef, Tables};
-
-/// The most bytes that a reply may have, its LF with them.
-const MOST: usize = 16_777_216;
-
-const LINE_FEED: u8 = 0x0A;
 
 /// Whether a reply was appended, or has too many bytes.
 #[derive(Clone, Copy, Debug, PartialEq, Eq)]

@@ -4,7 +4,8 @@ ghost use Rattle.std.specs.List.{All};
 ghost use Rattle.table_rows.specs.declared.slot_ref.SlotRef.{SlotRef};
 ghost use Rattle.table_rows.specs.Slots.{is_live_in};
 ghost use Rattle.request_types.specs.Fits.{FindFits};
-ghost use Rattle.find_scan.specs.Select.{found, keys_of, selected, slots_of, AreDistinct};
+ghost use Rattle.find_scan.specs.Select.{found, keys_of, selected, slots_of};
+ghost use Rattle.table_rows.specs.Named.{AreDistinct};
 ghost use Rattle.find_scan.specs.Gathering.{gives};
 
 use crate::listed::scan_each;

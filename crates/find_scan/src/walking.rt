@@ -1,20 +1,18 @@
 //! One walk of a find: the rows that stand to one key as it asks.
 ghost use Rattle.std.specs.Prelude.{◌≡◌, ◌≤◌, List, ◌++◌, length, OnOk};
-ghost use Rattle.table_rows.specs.Entries.{Entry, cell_at};
-ghost use Rattle.row_types.specs.Order.{value_cmp};
+ghost use Rattle.table_rows.specs.Entries.{Entry};
 ghost use Rattle.request_types.specs.Fits.{FindFits};
 ghost use Rattle.table_rows.specs.Rows.{indexes_of};
 ghost use Rattle.table_rows.specs.Indexes.{parts_at};
 ghost use Rattle.table_rows.specs.Valid.{IsValidState};
 ghost use Rattle.find_scan.specs.Select.{matching};
-ghost use Rattle.find_scan.specs.Gathering.{AreWideFor, gives, has_key, front_of, is_equal, bound_of};
+ghost use Rattle.find_scan.specs.Gathering.{AreWideFor, gives, front_of, is_equal, bound_of};
 
 use crate::selection::Selection;
 use request_types::{FilterSpec, FindOp, FindSpec};
-use row_types::{Value, cmp_values};
+use row_types::Value;
 use std::alloc::AllocError;
-use std::cmp::Ordering;
-use table_rows::{Bound, Tables, Walk};
+use table_rows::{Bound, Tables, Walk, has_key};
 
 /// Offers the rows that stand to a key as the find asks, until nothing more is selected.
 pub(crate) fn scan(
@@ -83,8 +81,7 @@ fn gather(
     filters: &[FilterSpec],
     selection: &mut Selection,
 ) -> Result<(), AllocError>
-    requires wide { AreWideFor filters.now walk }
-    requires key { length front.now.key.now ≤ length front.now.parts.now }
+    requires { AreWideFor filters.now walk }
     ensures { OnOk result ((later : List Entry)
         → gives filters.now selection.new later
         ≡ gives filters.now selection.old
@@ -102,27 +99,4 @@ fn gather(
         selection.offer(slot, row, filters)?;
     }
     Ok(())
-}
-
-/// Whether the row's cells at the first of these columns are the key.
-fn has_key(columns: &[u32], key: &[Value], row: &[Value]) -> bool
-    requires { length key.now ≤ length columns.now }
-    ensures { result ≡ has_key columns.now key.now row.now }
-{
-    for (i, value) in key.iter().enumerate() {
-        if cmp_at(row, columns[i], value) != Ordering::Equal {
-            return false;
-        }
-    }
-    true
-}
-
-/// How the cell at a column compares with a value.
-fn cmp_at(row: &[Value], column: u32, value: &Value) -> Ordering
-    ensures { result ≡ value_cmp (cell_at row.now column) value.now }
-{
-    match row.get(column as usize) {
-        None => cmp_values(&Value::Null, value),
-        Some(cell) => cmp_values(cell, value),
-    }
 }

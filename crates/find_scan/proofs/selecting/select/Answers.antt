@@ -2,7 +2,8 @@ use Rattle.std.proofs.Common.{◌≡◌, true, ◌∙◌, sym, ap, subst}
 use Rattle.std.specs.List.{All}
 use Rattle.table_rows.specs.declared.slot_ref.SlotRef.{SlotRef}
 use Rattle.table_rows.specs.Slots.{is_live_in}
-use Rattle.find_scan.specs.Select.{found, keys_of, AreDistinct}
+use Rattle.table_rows.specs.Named.{AreDistinct}
+use Rattle.find_scan.specs.Select.{found, keys_of}
 use Rattle.find_scan.specs.Gathering.{Gathered, gives}
 use Rattle.find_scan.proofs.Chosen.{selected_live}
 use Rattle.find_scan.proofs.Distinct.{distinct_selected}

@@ -1,8 +1,8 @@
 use Rattle.std.proofs.Common.{◌≡◌, true, List, ◌++◌, sym, ap, subst, ◌∙◌}
 use Rattle.std.proofs.lemmas.Bool.{true≢false}
 use Rattle.row_types.specs.declared.values.Value.{Value}
-use Rattle.table_rows.specs.Entries.{Entry}
-use Rattle.find_scan.specs.Gathering.{AreWideFor, gives, has_key, front_of}
+use Rattle.table_rows.specs.Entries.{Entry, has_key}
+use Rattle.find_scan.specs.Gathering.{AreWideFor, gives, front_of}
 use Rattle.find_scan.proofs.Gathered.{front_first}
 use Rattle.find_scan.proofs.walking.gather.Goals as goal
 use Rattle.find_scan.proofs.walking.gather.Goals.{else-front-via-then-front+else-not-has_key, else-front-via-else-front}

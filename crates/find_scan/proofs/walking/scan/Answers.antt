@@ -1,4 +1,4 @@
-use Rattle.std.proofs.Common.{◌≡◌, List, ◌++◌, length, sym, ap, subst, ◌∙◌, arith}
+use Rattle.std.proofs.Common.{◌≡◌, List, ◌++◌, sym, ap, subst, ◌∙◌, arith}
 use Rattle.table_rows.specs.Entries.{Entry}
 use Rattle.request_types.specs.declared.filters.FilterSpec.{FilterSpec}
 use Rattle.table_rows.specs.declared.bound.Bound.{Bound}
@@ -15,15 +15,11 @@ walk-walk-requires-clause-table c = table_there c.args.tables.now c.args.spec.no
 pub walk-walk-requires-clause-index : goal.walk-walk-requires-clause-index
 walk-walk-requires-clause-index c = index_there c.args.tables.now c.args.spec.now c.requires.fits
 
-pub gather-requires-clause-wide : goal.gather-requires-clause-wide
-gather-requires-clause-wide c =
+pub gather-requires : goal.gather-requires
+gather-requires c =
     subst (λ (filters : List FilterSpec). AreWideFor filters c.walk-walk.result) (sym c.as_slice.ensures)
     (subst (AreWideFor c.args.spec.now.filters) (sym c.walk-walk.ensures)
     (wide_walked c.args.tables.now c.args.spec.now c.requires.fits c.parts.ensures.valid c.bound_of.result c.args.key.now))
-
-pub gather-requires-clause-key : goal.gather-requires-clause-key
-gather-requires-clause-key c =
-    omega (arith, c.requires.key, ap length c.parts.ensures.parts, key_fits c.args.tables.now c.args.spec.now c.requires.fits)
 
 pub returns : goal.returns
 returns c =
