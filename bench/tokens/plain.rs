@@ -1,4 +1,4 @@
-//! The plain program that `decode_line` is measured against: one loop over the bytes of each line.
+//! The plain program that `decode_shared` is measured against: one loop over the bytes of each line.
 //!
 //! It is run twice: with texts that borrow from the line, the least work that any decoder can do, and with texts of
 //! their own, as a decoder without shared buffers makes them.
