@@ -125,27 +125,6 @@ fn a_file_keeps_what_was_written_and_gives_back_the_zeros(rt: HostRuntime) -> Re
 }
 
 #[test]
-fn pieces_of_every_length_are_written_whole(rt: HostRuntime) -> Result<(), Fail> {
-    let path = "hs_disk_pieces.tmp";
-    let body = [7; 9000];
-    for len in [0, 8189, 8190, 8191, 9000] {
-        let mut disk = FileDisk::open(&rt, path)?;
-        let mut buf = [0; 9003];
-        assert_eq!(rt; disk.cut(0), Ok(()), "{len}");
-        assert_eq!(rt;
-            disk.write_pieces(0, b"\x01", &body[..len], b"z"),
-            Ok(()),
-            "{len}"
-        );
-        assert_eq!(rt; disk.read(0, &mut buf), Ok(len + 2), "{len}");
-        assert_eq!(rt; &buf[1..=len], &body[..len], "{len}");
-        assert_eq!(rt; &buf[len + 1..len + 3], b"z\0".as_slice(), "{len}");
-    }
-    fs::remove_file(&rt, path)?;
-    Ok(())
-}
-
-#[test]
 fn a_file_that_is_no_journal_is_refused_and_stays(rt: HostRuntime) -> Result<(), Fail> {
     let path = "hs_disk_foreign.tmp";
     for (bytes, is_ours) in [
