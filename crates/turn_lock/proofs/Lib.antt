@@ -1,0 +1,11 @@
+mod Totals
+mod Prefixes
+mod Stays
+mod Drawing
+mod Looking
+mod Counting
+mod PassingOn
+mod Dealing
+mod Joining
+mod Closing
+mod Learned

@@ -1,0 +1,5 @@
+pub mod Histories
+pub mod Serial
+pub mod Steps
+pub mod Known
+pub mod Turns
