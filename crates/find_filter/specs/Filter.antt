@@ -10,7 +10,8 @@ use Rattle.request_types.specs.declared.filters.FilterSpec.{FilterSpec}
 use Rattle.find_filter.specs.declared.filters.Step.{Step}
 use Rattle.find_filter.specs.declared.filters.Step.TheVariants.{Keep, Skip, Stop}
 
--- Whether a value stands in this relation to another, in the order of values: NULL equals NULL and stands before every other value.
+-- Whether a value stands in this relation to another, in the order of values: NULL equals NULL and
+-- stands before every other value.
 abbrev pub stands : FilterOp → Value → Value → Bool
 stands Equal a b = is_eq (value_cmp a b)
 stands NotEqual a b = not (is_eq (value_cmp a b))
@@ -27,7 +28,8 @@ holds row filter = stands filter.op (slice_index_or row filter.column Null) filt
 abbrev pub failed : FilterSpec → Step
 failed filter = if filter.stop then Stop else Skip
 
--- The first filter, in the order of the line, that a row fails decides; a row that fails none is kept.
+-- The first filter, in the order of the line, that a row fails decides; a row that fails none is
+-- kept.
 abbrev pub step_of : List Value → List FilterSpec → Step
 step_of row [] = Keep
 step_of row (f ∷ fs) = if holds row f then step_of row fs else failed f

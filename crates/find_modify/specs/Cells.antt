@@ -20,7 +20,8 @@ held n = if is_outside n then Err Range else Ok (Int n)
 -- Whether the sign turns from the one number to the other. Zero has none.
 abbrev pub turns : ℤ → ℤ → Bool
 turns before after =
-    (int_lt (pos 0) before && int_lt after (pos 0)) || (int_lt before (pos 0) && int_lt (pos 0) after)
+    (int_lt (pos 0) before && int_lt after (pos 0))
+    || (int_lt before (pos 0) && int_lt (pos 0) after)
 
 -- A number is added to the cell's. What is no number stays.
 abbrev pub added : Value → Value → Result Value Code
@@ -45,7 +46,8 @@ changed_cell Add cell value = added cell value
 changed_cell Subtract cell value = taken_off cell value
 changed_cell Remove cell value = Ok cell
 
--- The row whose columns with these numbers are changed by the values, by place. There may be more numbers than values.
+-- The row whose columns with these numbers are changed by the values, by place. There may be more
+-- numbers than values.
 abbrev pub changed_row : ModKind → List ℕ → List Value → List Value → Result (List Value) Code
 changed_row kind numbers [] row = Ok row
 changed_row kind [] (v ∷ vs) row = Ok row

@@ -39,7 +39,8 @@ changed_one table columns change slot state =
     else changed_row change.kind columns change.values (row_at state table slot.0)
     >>= with_instead table slot state
 
--- The state once the rows in these slots are changed, one after the other. The first refusal counts.
+-- The state once the rows in these slots are changed, one after the other. The first refusal
+-- counts.
 abbrev pub changed_all : ℕ → List ℕ → ModSpec → List SlotRef → State → Result State Code
 changed_all table columns change [] state = Ok state
 changed_all table columns change (slot ∷ slots) state =

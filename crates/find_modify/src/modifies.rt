@@ -41,7 +41,8 @@ pub fn modify(
     ensures done { (count : ℕ) → result ≡ Ok (Done count)
         → changed_all table columns.now change.now slots.now tables.old ≡ Ok tables.new }
     ensures noted { IsNoted tables.old tables.new undo.old.entries undo.new.entries }
-    // Where a row is refused, or memory is wanting, all rows are as they were, and no change is noted.
+    // Where a row is refused, or memory is wanting, all rows are as they were, and no change is
+    // noted.
     ensures unchanged { ((count : ℕ) → result ≢ Ok (Done count))
         → (tables.new ≡ tables.old) × (undo.new.entries ≡ undo.old.entries) }
 {

@@ -42,7 +42,14 @@ some_indexes =
 
 -- They make the only table.
 abbrev pub some_schema : Schema
-some_schema = record { tables = record { db = codes "test"; name = codes "t"; columns = some_columns; indexes = some_indexes } ∷ [] }
+some_schema = record {
+  tables = record {
+    db = codes "test";
+    name = codes "t";
+    columns = some_columns;
+    indexes = some_indexes;
+  } ∷ [];
+}
 
 -- The rows (1, a, 4), (2, b, 4), (3, c, 4) and (4, d, 6), in slots 0 to 3.
 abbrev pub four_rows : State
@@ -57,18 +64,25 @@ four_rows = record {
 
 -- A find of this key alone, without a list or a filter.
 abbrev pub find_of : ℕ → FindOp → ℕ → ℕ → ℕ → FindSpec
-find_of index op key limit offset =
-    record { table = 0; index = index; op = op; key = int key ∷ []; within = None; limit = limit; offset = offset; filters = []; columns = [] }
+find_of index op key limit offset = record {
+  table = 0;
+  index = index;
+  op = op;
+  key = int key ∷ [];
+  within = None;
+  limit = limit;
+  offset = offset;
+  filters = [];
+  columns = [];
+}
 
 -- The same with filters.
 abbrev pub filtered : List FilterSpec → FindSpec → FindSpec
-filtered filters spec =
-    record { table = spec.table; index = spec.index; op = spec.op; key = spec.key; within = spec.within; limit = spec.limit; offset = spec.offset; filters = filters; columns = spec.columns }
+filtered filters spec = record spec { filters = filters }
 
 -- The same with a list.
 abbrev pub listed : InSpec → FindSpec → FindSpec
-listed list spec =
-    record { table = spec.table; index = spec.index; op = spec.op; key = spec.key; within = Some list; limit = spec.limit; offset = spec.offset; filters = spec.filters; columns = spec.columns }
+listed list spec = record spec { within = Some list }
 
 -- A slot.
 abbrev pub slot : ℕ → SlotRef

@@ -13,7 +13,8 @@ use Rattle.table_rows.specs.declared.bound.Bound.{Bound}
 use Rattle.table_rows.specs.declared.bound.Bound.TheVariants.{From, Behind, To, Before}
 use Rattle.find_scan.specs.Select.{once, kept, slots_of}
 
--- The slots that were selected so far, how many more rows that are kept are dropped, and how many are selected then.
+-- The slots that were selected so far, how many more rows that are kept are dropped, and how many
+-- are selected then.
 pub record Gathered : Type 0 where
   pub slots : List SlotRef
   pub to_drop : ℕ
@@ -21,7 +22,8 @@ pub record Gathered : Type 0 where
 
 -- What is selected where these rows are kept.
 abbrev pub with_kept : Gathered → List Entry → List SlotRef
-with_kept gathered entries = gathered.slots ++ slots_of (take gathered.room (drop gathered.to_drop entries))
+with_kept gathered entries =
+    gathered.slots ++ slots_of (take gathered.room (drop gathered.to_drop entries))
 
 -- What is selected where these rows come.
 abbrev pub gives : List FilterSpec → Gathered → List Entry → List SlotRef
@@ -29,7 +31,9 @@ gives filters gathered entries = with_kept gathered (kept filters entries)
 
 -- Each of these rows has the columns of the filters.
 abbrev pub AreWideFor : List FilterSpec → List Entry → Type 0
-AreWideFor filters entries = AllByRecursion (λ (entry : Entry). All (λ (f : FilterSpec). f.column < length entry.0) filters) entries
+AreWideFor filters entries =
+    AllByRecursion (λ (entry : Entry). All (λ (f : FilterSpec). f.column < length entry.0) filters)
+    entries
 
 -- The entries from the front on that have the key, where only such are asked for.
 abbrev pub front_of : Bool → List ℕ → List Value → List Entry → List Entry

@@ -42,18 +42,21 @@ stands_to columns key entry = prefix_cmp (cells columns entry.0) key
 abbrev pub columns_for : State → FindSpec → List ℕ
 columns_for state spec = index_columns (indexes_of state spec.table) spec.index
 
--- The rows whose first index cells stand to the key as the operator asks, by the index and then the primary key.
+-- The rows whose first index cells stand to the key as the operator asks, by the index and then the
+-- primary key.
 abbrev pub matching : State → FindSpec → List Value → List Entry
 matching state spec key =
     directed spec.op
-    (filter (λ entry. is_asked spec.op (stands_to (columns_for state spec) key entry)) (walk_of state spec.table spec.index))
+    (filter (λ entry. is_asked spec.op (stands_to (columns_for state spec) key entry))
+    (walk_of state spec.table spec.index))
 
 -- The values, each at the place where it comes first.
 abbrev pub once : List Value → List Value
 once [] = []
 once (v ∷ vs) = v ∷ filter (λ w. not (is_eq (value_cmp w v))) (once vs)
 
--- The keys that are looked for, one after another. A list puts each of its values in the place of one value of the key.
+-- The keys that are looked for, one after another. A list puts each of its values in the place of
+-- one value of the key.
 abbrev pub keys_of : List Value → Option InSpec → List (List Value)
 keys_of key None = key ∷ []
 keys_of key (Some list) = map (λ v. set key list.part v) (once list.values)
@@ -74,10 +77,12 @@ abbrev pub kept : List FilterSpec → List Entry → List Entry
 kept filters [] = []
 kept filters (entry ∷ entries) = by_step (step_of entry.0 filters) entry (kept filters entries)
 
--- Of the rows that are kept the first `offset` are dropped, and of the others at most `limit` are selected.
+-- Of the rows that are kept the first `offset` are dropped, and of the others at most `limit` are
+-- selected.
 abbrev pub selected : State → FindSpec → List Entry
 selected state spec =
-    take spec.limit (drop spec.offset (kept spec.filters (found state spec (keys_of spec.key spec.within))))
+    take spec.limit
+    (drop spec.offset (kept spec.filters (found state spec (keys_of spec.key spec.within))))
 
 -- Where the rows are kept.
 abbrev pub slots_of : List Entry → List SlotRef

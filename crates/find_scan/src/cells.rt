@@ -9,9 +9,11 @@ use hs_token::{TAB, push_integer, push_text};
 use row_types::{Row, Value};
 use std::alloc::AllocError;
 
-/// Appends the cells of a row at some columns, each behind an HT, or a part of them where memory runs out.
+/// Appends the cells of a row at some columns, each behind an HT, or a part of them where memory
+/// runs out.
 pub(crate) fn push_row(out: &mut Vec<u8>, row: &Row, columns: &[u32]) -> Result<(), AllocError>
-    ensures ok { OnOk result (out.new.items ≡ out.old.items ++ behind_tabs (row_tokens columns.now row.now)) }
+    ensures ok { OnOk result
+        (out.new.items ≡ out.old.items ++ behind_tabs (row_tokens columns.now row.now)) }
     ensures err { OnErr result (Extends out.old.items out.new.items) }
 {
     let values = row.as_slice();
@@ -23,7 +25,8 @@ pub(crate) fn push_row(out: &mut Vec<u8>, row: &Row, columns: &[u32]) -> Result<
 
 /// Appends an HT and the cell at a column.
 fn push_cell_at(out: &mut Vec<u8>, values: &[Value], column: u32) -> Result<(), AllocError>
-    ensures ok { OnOk result (out.new.items ≡ out.old.items ++ 9 ∷ token_spelled (cell_token (cell_at values.now column))) }
+    ensures ok { OnOk result (out.new.items
+        ≡ out.old.items ++ 9 ∷ token_spelled (cell_token (cell_at values.now column))) }
     ensures err { OnErr result (Extends out.old.items out.new.items) }
 {
     match values.get(column as usize) {
@@ -34,7 +37,8 @@ fn push_cell_at(out: &mut Vec<u8>, values: &[Value], column: u32) -> Result<(), 
 
 /// Appends an HT and a cell's token, or a part of them where memory runs out.
 pub fn push_cell(out: &mut Vec<u8>, cell: &Value) -> Result<(), AllocError>
-    ensures ok { OnOk result (out.new.items ≡ out.old.items ++ 9 ∷ token_spelled (cell_token cell.now)) }
+    ensures ok { OnOk result
+        (out.new.items ≡ out.old.items ++ 9 ∷ token_spelled (cell_token cell.now)) }
     ensures err { OnErr result (Extends out.old.items out.new.items) }
 {
     out.push(TAB)?;

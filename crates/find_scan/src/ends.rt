@@ -10,7 +10,8 @@ use std::alloc::AllocError;
 /// The most bytes that a reply may have, its LF with them.
 pub(crate) const MOST: usize = 16_777_216;
 
-/// Whether a reply that begins at a place has room for its LF. Without that it is too big, whatever else follows.
+/// Whether a reply that begins at a place has room for its LF. Without that it is too big, whatever
+/// else follows.
 pub fn has_room(out: &[u8], start: usize) -> bool
     requires { start ≤ length out.now }
     ensures { result ≡ nat_lt (length out.now - start) most_reply }
@@ -18,8 +19,8 @@ pub fn has_room(out: &[u8], start: usize) -> bool
     out.len() - start < MOST
 }
 
-/// Ends the reply that begins at a place with its LF. One of too many bytes is taken away, and so is one for whose LF there
-/// is no memory.
+/// Ends the reply that begins at a place with its LF. One of too many bytes is taken away, and so
+/// is one for whose LF there is no memory.
 pub fn end_reply(out: &mut Vec<u8>, start: usize) -> Result<Rendered, AllocError>
     requires { start ≤ length out.old.items }
     ensures size { IfOk result (λ r. r ≡ rendered (drop start out.old.items ++ 10 ∷ [])) }

@@ -5,10 +5,12 @@ ghost use Rattle.request_types.specs.declared.filters.FilterOp.TheVariants as op
 ghost use Rattle.find_scan.specs.Select.{selected, slots_of};
 ghost use Rattle.find_scan.specs.Examples.{int, slot, four_rows, find_of, filtered, listed};
 
-/// Finds on the rows (1, a, 4), (2, b, 4), (3, c, 4) and (4, d, 6) in the slots 0 to 3, by id or by the last number.
+/// Finds on the rows (1, a, 4), (2, b, 4), (3, c, 4) and (4, d, 6) in the slots 0 to 3, by id or by
+/// the last number.
 pub fn finds_of_examples()
     // `<=` descends throughout: the last of the equal rows comes first.
-    ensures descends { slots_of (selected four_rows (find_of 1 LessEqual 4 2 0)) ≡ slot 2 ∷ slot 1 ∷ [] }
+    ensures descends { slots_of (selected four_rows (find_of 1 LessEqual 4 2 0))
+        ≡ slot 2 ∷ slot 1 ∷ [] }
     // A repeat in a list is passed over, and the offset counts over the whole.
     ensures listed_once { slots_of (selected four_rows
         (listed (record { part = 0; values = int 3 ∷ int 1 ∷ int 3 ∷ [] }) (find_of 0 Equal 9 2 1)))

@@ -13,7 +13,8 @@ use std::alloc::{AllocError, Global};
 use std::collections::BTreeSet;
 use table_rows::Tables;
 
-/// Puts each value of the list into the key in turn, but for repeats, and offers the rows of that key.
+/// Puts each value of the list into the key in turn, but for repeats, and offers the rows of that
+/// key.
 pub(crate) fn scan_each(
     alloc: Global,
     tables: &Tables,
@@ -49,7 +50,8 @@ fn take(
     value: &Value,
 ) -> Result<bool, AllocError>
     requires { part < length key.old.items }
-    ensures fresh { IfOk result (λ is_new. (later : List Value) → fresh seen.old.keys (value.now ∷ later)
+    ensures fresh { IfOk result (λ is_new. (later : List Value)
+        → fresh seen.old.keys (value.now ∷ later)
         ≡ (if is_new then value.now ∷ fresh seen.new.keys later else fresh seen.new.keys later)) }
     ensures key { IfOk result (λ is_new. key.new.items
         ≡ (if is_new then set key.old.items part value.now else key.old.items)) }

@@ -77,7 +77,8 @@ fn append_reply(
     Ok(rendered)
 }
 
-/// Appends the cells of the rows, each behind an HT, as long as there are fewer than so many bytes before each row.
+/// Appends the cells of the rows, each behind an HT, as long as there are fewer than so many bytes
+/// before each row.
 fn push_rows(
     tables: &Tables,
     table: u32,
@@ -89,9 +90,11 @@ fn push_rows(
     requires table { table < length tables.now.tables }
     requires live { All (λ (slot : SlotRef). is_live_in tables.now table slot.0 ≡ true) slots.now }
     ensures size { IfOk result (λ r. r ≡ below most
-        (out.old.items ++ behind_tabs (rows_tokens columns.now (rows_at tables.now table slots.now)))) }
+        (out.old.items
+        ++ behind_tabs (rows_tokens columns.now (rows_at tables.now table slots.now)))) }
     ensures whole { IfOk result (λ r. r ≡ Fits → out.new.items
-        ≡ out.old.items ++ behind_tabs (rows_tokens columns.now (rows_at tables.now table slots.now))) }
+        ≡ out.old.items
+        ++ behind_tabs (rows_tokens columns.now (rows_at tables.now table slots.now))) }
     ensures front { Extends out.old.items out.new.items }
 {
     for slot in slots {

@@ -15,10 +15,12 @@ use request_types::FindSpec;
 use std::alloc::{AllocError, Global};
 use table_rows::{SlotRef, Tables};
 
-/// The selected rows, in the order in which a find gives them. One walk a key, which ends as soon as no more is selected.
+/// The selected rows, in the order in which a find gives them. One walk a key, which ends as soon
+/// as no more is selected.
 pub fn select(alloc: Global, tables: &Tables, spec: &FindSpec) -> Result<Vec<SlotRef>, AllocError>
     requires { FindFits tables.now.schema spec.now }
-    ensures selected { IfOk result (λ slots. slots.items ≡ slots_of (selected tables.now spec.now)) }
+    ensures selected { IfOk result
+        (λ slots. slots.items ≡ slots_of (selected tables.now spec.now)) }
     ensures live { IfOk result (λ slots.
         All (λ (slot : SlotRef). is_live_in tables.now spec.now.table slot.0 ≡ true) slots.items) }
     ensures distinct { IfOk result (λ slots. AreDistinct slots.items) }

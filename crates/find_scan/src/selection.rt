@@ -12,7 +12,8 @@ use std::alloc::{AllocError, Global};
 use std::marker::Model;
 use table_rows::SlotRef;
 
-/// Slots in the order in which they were selected, how many more kept rows are dropped, and how many are selected then.
+/// Slots in the order in which they were selected, how many more kept rows are dropped, and how
+/// many are selected then.
 #[derive(Drop)]
 pub(crate) struct Selection {
     slots: Vec<SlotRef>,
@@ -64,7 +65,8 @@ impl Selection {
         requires room { 0 < self.old.room }
         requires filters { All (λ f. f.column < length row.now) filters.now }
         ensures { OnOk result ((later : List Entry)
-            → gives filters.now self.new later ≡ gives filters.now self.old ((row.now, slot.0) ∷ later)) }
+            → gives filters.now self.new later
+            ≡ gives filters.now self.old ((row.now, slot.0) ∷ later)) }
     {
         match passes(row, filters) {
             Step::Keep => self.keep(slot),

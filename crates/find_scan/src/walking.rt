@@ -74,7 +74,8 @@ struct Front<'a> {
     key: &'a [Value],
 }
 
-/// Offers the rows of a walk, or those at its front that have the key, until nothing more is selected.
+/// Offers the rows of a walk, or those at its front that have the key, until nothing more is
+/// selected.
 fn gather(
     walk: Walk<'_>,
     front: &Front<'_>,

@@ -59,7 +59,8 @@ by_id columns filter_columns = record {
   filter_columns = filter_columns;
 }
 
--- The id 1 stands for it with the columns `id`, `name` and `n`, the id 3 with `id`, and `n` and `id` for filters.
+-- The id 1 stands for it with the columns `id`, `name` and `n`, the id 3 with `id`, and `n` and
+-- `id` for filters.
 abbrev pub ids : List (ℕ × Handle)
 ids =
     (1, by_id (id_column ∷ name_column ∷ n_column ∷ []) [])

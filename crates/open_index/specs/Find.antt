@@ -96,11 +96,13 @@ filter_op t =
     else if is_word (codes "<=") t then Some tests.LessEqual
     else None
 
--- Whether a token begins a filter. A row that fails it is passed over behind `F`, and ends the request behind `W`.
+-- Whether a token begins a filter. A row that fails it is passed over behind `F`, and ends the
+-- request behind `W`.
 abbrev pub is_filter : Token → Bool
 is_filter t = is_word (codes "F") t || is_word (codes "W") t
 
--- A filter by its tokens: the operator, the column by its place among those opened for filters, and the value.
+-- A filter by its tokens: the operator, the column by its place among those opened for filters, and
+-- the value.
 unfoldable pub filter_of : List OpenColumn → Bool → Token → Token → Token → Result FilterSpec Code
 filter_of columns stop op place token = or_refuse refused.Filter (filter_op op) >>= λ o.
     or_refuse refused.Args (u32_at place) >>= λ n.
@@ -160,7 +162,8 @@ is_reading ports.Reading = true
 is_reading ports.Writing = false
 is_reading ports.Sql = false
 
--- MOD behind its word: all the tokens that are left are its values. The reading port changes nothing.
+-- MOD behind its word: all the tokens that are left are its values. The reading port changes
+-- nothing.
 unfoldable pub change_of : Port → List OpenColumn → ModKind × Bool → List Token →
     Result ModSpec Code
 change_of port columns word ts =

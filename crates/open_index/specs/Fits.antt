@@ -17,8 +17,8 @@ use Rattle.open_index.specs.Find.{numbers}
 abbrev pub IsColumnOf : List Column → OpenColumn → Type 0
 IsColumnOf columns c = IsSomeAnd (slice_get columns c.number) (λ d. d.kind ≡ c.kind)
 
--- An id stands for an index of its table and all the index's columns, and for columns of both lists.
--- Those of the first list are there once each.
+-- An id stands for an index of its table and all the index's columns, and for columns of both
+-- lists. Those of the first list are there once each.
 pub record HandleFitsTable (table : TableDef) (h : Handle) : Type 0 where
   pub index : IsSomeAnd (slice_get table.indexes h.index) (λ i. numbers h.parts ≡ i.parts)
   pub parts : All (IsColumnOf table.columns) h.parts

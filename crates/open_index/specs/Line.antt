@@ -46,7 +46,8 @@ abbrev pub is_secret : Option (List ℕ) → Token → Bool
 is_secret None key = true
 is_secret (Some secret) key = is_word secret key
 
--- `A <atyp> <akey>` behind the `A`: the type is `1`, and the key is the secret of a port that has one.
+-- `A <atyp> <akey>` behind the `A`: the type is `1`, and the key is the secret of a port that has
+-- one.
 unfoldable pub tells : Auth → List Token → Result Meaning Code
 tells auth (kind ∷ key ∷ []) =
     if not (is_word (codes "1") kind) then Err refused.Args

@@ -132,7 +132,8 @@ open_of schema handles (id ∷ db ∷ name ∷ index ∷ lists) =
     else Err refused.Args
 open_of schema handles _ = Err refused.Args
 
--- The columns and the indexes of a table have numbers of 32 bits, as those of every valid schema do.
+-- The columns and the indexes of a table have numbers of 32 bits, as those of every valid schema
+-- do.
 abbrev pub IsTableNumbered : TableDef → Type 0
 IsTableNumbered table = (length table.columns < 2 ^ 32) × (length table.indexes < 2 ^ 32)
 

@@ -13,13 +13,15 @@ use Rattle.open_index.specs.declared.handles.OpenColumn.{OpenColumn}
 use Rattle.request_types.specs.Refusal.{◌>>=◌, or_refuse}
 use Rattle.open_index.specs.Tokens.{i64_at}
 
--- A value for a column of this kind: NULL, or for integers the number that is written, and for texts the text, however long.
+-- A value for a column of this kind: NULL, or for integers the number that is written, and for
+-- texts the text, however long.
 unfoldable pub value_of : Kind → Token → Result Value Code
 value_of kind Null = Ok values.Null
 value_of kinds.Int (Text text) = or_refuse refused.Value (option_map values.Int (i64_of text))
 value_of (kinds.Bytes most) (Text text) = Ok (values.Text text)
 
--- Values for columns by place: the first token is for the first column. Columns may be left, and take no value.
+-- Values for columns by place: the first token is for the first column. Columns may be left, and
+-- take no value.
 unfoldable pub values_of : List OpenColumn → List Token → Result (List Value) Code
 values_of columns [] = Ok []
 values_of [] (t ∷ ts) = Err refused.Vlen

@@ -31,7 +31,8 @@ pub struct Handle {
     pub filter_columns: List<OpenColumn>,
 }
 
-/// The open ids of a connection. Contracts see them in ascending order, each with what it stands for.
+/// The open ids of a connection. Contracts see them in ascending order, each with what it stands
+/// for.
 #[derive(Drop)]
 pub struct Handles {
     open: BTreeMap<u32, Handle>,

@@ -44,23 +44,29 @@ pub fn example_requests()
       free,
     ) }
     // LIM, IN, a filter on the second filter column, and a change that shows the rows.
-    ensures whole { written free (codes "3\t=\t1\t9\t2\t5\t@\t0\t2\t3\t01\tW\t!=\t1\t-4\t+?\t10") ≡ (
-      Ask (Modify
-          (record {
-            table = 0;
-            index = 0;
-            op = finds.Equal;
-            key = Int (pos 9) ∷ [];
-            within = Some (record { part = 0; values = Int (pos 3) ∷ Int (pos 1) ∷ [] });
-            limit = 2;
-            offset = 5;
-            filters = record { stop = true; op = tests.NotEqual; column = 0; value = Int (negsuc 3) } ∷ [];
-            columns = 0 ∷ [];
-          })
-          (record { kind = mods.Add; values = Int (pos 10) ∷ []; show = true })),
-      ids,
-      free,
-    ) }
+    ensures whole { written free
+        (codes "3\t=\t1\t9\t2\t5\t@\t0\t2\t3\t01\tW\t!=\t1\t-4\t+?\t10") ≡ (
+          Ask (Modify
+              (record {
+                table = 0;
+                index = 0;
+                op = finds.Equal;
+                key = Int (pos 9) ∷ [];
+                within = Some (record { part = 0; values = Int (pos 3) ∷ Int (pos 1) ∷ [] });
+                limit = 2;
+                offset = 5;
+                filters = record {
+                  stop = true;
+                  op = tests.NotEqual;
+                  column = 0;
+                  value = Int (negsuc 3);
+                } ∷ [];
+                columns = 0 ∷ [];
+              })
+              (record { kind = mods.Add; values = Int (pos 10) ∷ []; show = true })),
+          ids,
+          free,
+        ) }
     ensures insert { written free (codes "1\t+\t2\t3\t" ++ 0 ∷ []) ≡ (
       Ask (Insert
           (record { table = 0; columns = 0 ∷ 1 ∷ []; values = Int (pos 3) ∷ Null ∷ [] })),

@@ -4,12 +4,14 @@
 //! |---|---|
 //! | `P <indexid> <db> <table> <index> <columns> [<fcolumns>]` | an open id for an index |
 //! | `A <atyp> <akey>` | leave to send other lines |
-//! | `<indexid> <op> <vlen> <v1>..<vn> [LIM] [IN] [FILTER ..] [MOD]` | a find, or a change of the rows found |
+//! | `<indexid> <op> <vlen> <v1>..<vn> [LIM] [IN] [FILTER ..] [MOD]` | a find, or a change of its rows |
 //! | `<indexid> + <vlen> <v1>..<vn>` | an insert |
 //!
-//! `resolve` reads one line and answers the request, or the code of its first refusal from left to right; a line that is
-//! refused leaves the connection's open ids and its auth as they were. `resolve_shared` takes a line whose memory is shared. What a line means depends on the schema, the port,
-//! its secret and the connection's earlier lines, and never on the tables' rows. Carrying requests out is left to others.
+//! `resolve` reads one line and answers the request, or the code of its first refusal from left to
+//! right; a line that is refused leaves the connection's open ids and its auth as they were.
+//! `resolve_shared` takes a line whose memory is shared. What a line means depends on the schema,
+//! the port, its secret and the connection's earlier lines, and never on the tables' rows. Carrying
+//! requests out is left to others.
 #![tactic(auto)]
 
 mod changes;

@@ -134,9 +134,10 @@ fn line_means(alloc: Global, context: &Context, line: &Bytes) -> Result<Meaning,
 
 /// Reads a line without its LF, and says what becomes of it.
 ///
-/// The port is the reading or the writing one; the SQL port's lines are of another form, and are read here as the
-/// writing port's. What is refused, and in which order, is `reads`: a refused line changes neither the open ids nor the
-/// auth, and its reply begins with the answered number. Want of memory changes neither, too.
+/// The port is the reading or the writing one; the SQL port's lines are of another form, and are
+/// read here as the writing port's. What is refused, and in which order, is `reads`: a refused line
+/// changes neither the open ids nor the auth, and its reply begins with the answered number. Want
+/// of memory changes neither, too.
 pub fn resolve(
     alloc: Global,
     schema: &Schema,

@@ -1,4 +1,5 @@
-//! What no contract says: that there is memory for what a line asks, and that open ids may go to other threads.
+//! What no contract says: that there is memory for what a line asks, and that open ids may go to
+//! other threads.
 ghost use Rattle.std.specs.Prelude.{IfOk};
 ghost use Rattle.open_index.specs.Open.{IsNumbered, IsTableNumbered};
 

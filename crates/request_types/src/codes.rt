@@ -4,8 +4,9 @@ ghost use Rattle.request_types.specs.Code.{number, text};
 
 use crate::texts::text_of;
 
-/// The refusals, in the order of their numbers. A request line meets those up to `Value`, `Ids` and `AuthKey`; what it
-/// asks for meets `Value` and those up to `Big`. A statement meets `Syntax` and those behind it.
+/// The refusals, in the order of their numbers. A request line meets those up to `Value`, `Ids` and
+/// `AuthKey`; what it asks for meets `Value` and those up to `Big`. A statement meets `Syntax` and
+/// those behind it.
 #[derive(Clone, Copy, Debug, PartialEq, Eq)]
 pub enum Code {
     /// The line begins with no `P`, no `A` and no open id's number.
@@ -36,7 +37,8 @@ pub enum Code {
     Filter = 13,
     /// A change of more columns than were opened, or of a text by a number.
     Mod = 14,
-    /// A value that is no integer, for an integer column, or a text that is too long for its column.
+    /// A value that is no integer, for an integer column, or a text that is too long for its
+    /// column.
     Value = 15,
     /// Another row has the same key in an index that allows no two such rows.
     Dup = 16,

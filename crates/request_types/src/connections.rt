@@ -1,6 +1,7 @@
 //! The name of a connection.
 
-/// A connection by its number, which another may have after it, and its generation, which no other has.
+/// A connection by its number, which another may have after it, and its generation, which no other
+/// has.
 #[derive(Clone, Copy, Debug, PartialEq, Eq)]
 pub struct ConnId {
     pub number: u32,

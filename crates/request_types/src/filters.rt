@@ -4,7 +4,8 @@ ghost use Rattle.std.specs.Prelude.{◌≡◌, IfOk};
 use row_types::{List, Value, copy_value};
 use std::alloc::{AllocError, Global};
 
-/// How a cell has to stand to a filter's value. NULL equals NULL and stands before every other value.
+/// How a cell has to stand to a filter's value. NULL equals NULL and stands before every other
+/// value.
 #[derive(Clone, Copy, Debug, PartialEq, Eq)]
 pub enum FilterOp {
     Equal,
@@ -15,7 +16,8 @@ pub enum FilterOp {
     LessEqual,
 }
 
-/// A condition on a column. `stop` says what a row that fails it does: it ends the request, or is passed over alone.
+/// A condition on a column. `stop` says what a row that fails it does: it ends the request, or is
+/// passed over alone.
 #[derive(Debug, Drop)]
 pub struct FilterSpec {
     pub stop: bool,

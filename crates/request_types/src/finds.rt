@@ -15,7 +15,8 @@ pub enum FindOp {
     LessEqual,
 }
 
-/// The values that stand for the `part`-th value of the key, one after the other. A repeated value counts once.
+/// The values that stand for the `part`-th value of the key, one after the other. A repeated value
+/// counts once.
 #[derive(Debug, Drop)]
 pub struct InSpec {
     pub part: u32,
@@ -45,7 +46,8 @@ fn copy_within(alloc: Global, within: &Option<InSpec>) -> Result<Option<InSpec>,
 
 /// A find on an index. The key has a value for each of the index's first parts.
 ///
-/// Of the rows that meet every filter the first `offset` are passed over, and at most `limit` are selected.
+/// Of the rows that meet every filter the first `offset` are passed over, and at most `limit` are
+/// selected.
 #[derive(Debug, Drop)]
 pub struct FindSpec {
     pub table: u32,

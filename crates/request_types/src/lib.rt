@@ -8,11 +8,13 @@
 //! | `ModSpec`, `InsertSpec` | what happens to the selected rows; a row to be inserted |
 //! | `Request` | what is asked of the tables |
 //! | `Port`, `ConnId` | a server's three ports; a connection |
-//! | `Item`, `Batch`, `Part`, `Replies` | what the lines of one turn ask for, and what is replied to each connection |
+//! | `Item`, `Batch`, `Part`, `Replies` | what the lines of a turn ask for, and what is replied to each |
 //!
-//! A `column` is a place in the table's list of columns and a `part` a place in the index's parts, each from 0, whatever
-//! columns the request's line was opened on. `table_named`, `index_named` and `column_named` look such places up. Reading lines is the work of `open_index`, selecting rows that of
-//! `find_scan`, gathering a batch that of `line_pipeline`, and answering it that of `batch_answers`.
+//! A `column` is a place in the table's list of columns and a `part` a place in the index's parts,
+//! each from 0, whatever columns the request's line was opened on. `table_named`, `index_named` and
+//! `column_named` look such places up. Reading lines is the work of `open_index`, selecting rows
+//! that of `find_scan`, gathering a batch that of `line_pipeline`, and answering it that of
+//! `batch_answers`.
 #![tactic(auto)]
 
 mod batches;

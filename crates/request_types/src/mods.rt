@@ -17,7 +17,8 @@ pub enum ModKind {
     Remove,
 }
 
-/// A change of the selected rows. `show` says whether the rows are answered, from before the change, or their number.
+/// A change of the selected rows. `show` says whether the rows are answered, from before the
+/// change, or their number.
 #[derive(Debug, Drop)]
 pub struct ModSpec {
     pub kind: ModKind,

@@ -1,4 +1,5 @@
-//! What no contract says: that there is memory for copies, and that requests and replies may go to other threads.
+//! What no contract says: that there is memory for copies, and that requests and replies may go to
+//! other threads.
 use super::*;
 use row_types::{ByteText, List, Value};
 use std::alloc::{AllocError, Global};

@@ -14,7 +14,8 @@ use Rattle.table_rows.specs.declared.verdict.Verdict.TheVariants as verdicts
 use Rattle.table_rows.specs.Rows.{State, columns_of}
 use Rattle.table_rows.specs.Checks.{verdict_of}
 
--- There is one value for each column, and it is NULL or of the column's kind. A text may be longer than its column.
+-- There is one value for each column, and it is NULL or of the column's kind. A text may be longer
+-- than its column.
 abbrev pub IsOfKinds : List Column → List Value → Type 0
 IsOfKinds columns row =
     AllZip (λ (column : Column) value. kind_fit column.kind value ≢ fits.WrongKind) columns row
@@ -41,8 +42,8 @@ code_of (verdicts.Dup index) = Some refused.Dup
 code_of (verdicts.Null column) = Some refused.Null
 code_of verdicts.Full = Some refused.Full
 
--- Why a row may not come in place of that in a slot, or of none. A text that is too long is found before NULL, NULL
--- before a clash, and a clash before want of space.
+-- Why a row may not come in place of that in a slot, or of none. A text that is too long is found
+-- before NULL, NULL before a clash, and a clash before want of space.
 abbrev pub refusal_of : State → ℕ → List Value → Option SlotRef → Option Code
 refusal_of state table row instead =
     if is_too_long (columns_of state table) row then Some refused.Value

@@ -39,7 +39,8 @@ pub fn insert(
         tables.old tables.new undo.old.entries undo.new.entries }
     ensures schema { tables.new.schema ≡ tables.old.schema }
     ensures back { CanGoBack tables.old tables.new undo.old.entries undo.new.entries }
-    // A row that is refused, or that no memory is there for, leaves all as it was, and nothing is noted.
+    // A row that is refused, or that no memory is there for, leaves all as it was, and nothing is
+    // noted.
     ensures unchanged { result ≢ Ok Done
         → (tables.new ≡ tables.old) × (undo.new.entries ≡ undo.old.entries) }
 {

@@ -4,13 +4,14 @@
 //! |---|---|
 //! | 15 | a text is longer than its column |
 //! | 17 | NULL in a column that forbids it |
-//! | 16 | another row has the same key in the primary index, or in a unique one and none of its parts is NULL |
+//! | 16 | another row has the same key in the primary index, or in a unique one and no part is NULL |
 //! | 19 | the rows would grow beyond the limit on all rows |
 //!
-//! The first of these that holds, in this order, is the answer, and the rows are then as before. `refusal_of` gives it for
-//! a row that comes new or in place of another; `insert` puts a new row, in which a column without a value has its
-//! preset. What is changed is noted, so that a caller can take it back. Which insert a line asks for is the work of
-//! `open_index`, and keeping rows that of `table_rows`.
+//! The first of these that holds, in this order, is the answer, and the rows are then as before.
+//! `refusal_of` gives it for a row that comes new or in place of another; `insert` puts a new row,
+//! in which a column without a value has its preset. What is changed is noted, so that a caller can
+//! take it back. Which insert a line asks for is the work of `open_index`, and keeping rows that of
+//! `table_rows`.
 #![tactic(auto)]
 
 mod inserts;
