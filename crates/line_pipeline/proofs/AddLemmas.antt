@@ -6,10 +6,11 @@ use Rattle.std.proofs.lemmas.Bool.{ne_eqb, eq-eqb}
 use Rattle.request_types.specs.declared.connections.ConnId.{ConnId}
 use Rattle.line_pipeline.specs.declared.conns.Conn.{Conn}
 use Rattle.line_pipeline.specs.declared.slots.Slot.{Slot}
-use Rattle.line_pipeline.specs.Table.{same_id, without, Joins}
+use Rattle.request_types.specs.Ids.{same_id}
+use Rattle.line_pipeline.specs.Table.{without, Joins}
 use Rattle.line_pipeline.specs.Gathered.{AreFound}
 use Rattle.line_pipeline.specs.Slots.{conns_from}
-use Rattle.line_pipeline.proofs.Ids.{same_id-refl, id_of_parts}
+use Rattle.request_types.proofs.Ids.{same_id-refl, id_of_parts}
 use Rattle.line_pipeline.proofs.SlotLemmas.{HasSlot, none_is, none_is_some, some_is}
 
 -- as many connections as places that are taken

@@ -13,9 +13,10 @@ use Rattle.line_pipeline.specs.declared.conns.Conn.TheVariants as conns
 use Rattle.line_pipeline.specs.declared.reasons.Reason.TheVariants as reasons
 use Rattle.line_pipeline.specs.Live.{Live, is_clogged, taken_lines, behind, kinds_of, left_by, item_of}
 use Rattle.line_pipeline.specs.Conn.{asks, closed, refused, took, items_of}
-use Rattle.line_pipeline.specs.Table.{Table, same_id, is_listed, are_once, conn_at, changed, all_changed}
+use Rattle.request_types.specs.Ids.{same_id, is_listed, are_once}
+use Rattle.line_pipeline.specs.Table.{Table, conn_at, changed, all_changed}
 use Rattle.line_pipeline.specs.Gathered.{items_at, batch_of, is_asking, AreFound}
-use Rattle.line_pipeline.proofs.Ids.{listed-filter, same_id-refl, once-head, once-tail}
+use Rattle.request_types.proofs.Ids.{listed-filter, same_id-refl, once-head, once-tail}
 use Rattle.line_pipeline.proofs.TableLemmas.{batch_of-changed}
 
 -- without a line feed nothing is taken

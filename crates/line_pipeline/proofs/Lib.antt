@@ -1,4 +1,3 @@
-pub mod Ids
 pub mod TableLemmas
 pub mod SlotLemmas
 pub mod AddLemmas
@@ -7,3 +6,5 @@ pub mod TakenLines
 pub mod GatherLemmas
 pub mod PlaceLemmas
 pub mod SettleLemmas
+pub mod Fitting
+pub mod Runs

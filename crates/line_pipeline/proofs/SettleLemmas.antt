@@ -7,9 +7,10 @@ use Rattle.request_types.specs.declared.connections.ConnId.{ConnId}
 use Rattle.request_types.specs.declared.batches.Part.{Part}
 use Rattle.line_pipeline.specs.declared.conns.Conn.{Conn}
 use Rattle.line_pipeline.specs.Conn.{answered, has_place}
-use Rattle.line_pipeline.specs.Table.{same_id, is_listed, changed}
+use Rattle.request_types.specs.Ids.{same_id, is_listed}
+use Rattle.line_pipeline.specs.Table.{changed}
 use Rattle.line_pipeline.specs.Settled.{told, all_told, answered_by, HasPlace}
-use Rattle.line_pipeline.proofs.Ids.{same_id-is, same_id-other}
+use Rattle.request_types.proofs.Ids.{same_id-is, same_id-other}
 use Rattle.line_pipeline.proofs.TableLemmas.{both, conn_at-changed}
 
 -- no part is its own

@@ -5,7 +5,8 @@ use Rattle.std.proofs.lemmas.Bool.{cases_Bool, ne_eqb, eq-eqb, eqb-true, both_wa
 use Rattle.request_types.specs.declared.connections.ConnId.{ConnId}
 use Rattle.line_pipeline.specs.declared.conns.Conn.{Conn}
 use Rattle.line_pipeline.specs.declared.slots.Slot.{Slot}
-use Rattle.line_pipeline.specs.Table.{same_id, conn_at, is_held, changed}
+use Rattle.request_types.specs.Ids.{same_id}
+use Rattle.line_pipeline.specs.Table.{conn_at, is_held, changed}
 use Rattle.line_pipeline.specs.Slots.{conns_from}
 
 pub zero_more : (n : ℕ) → 0 + n ≡ n

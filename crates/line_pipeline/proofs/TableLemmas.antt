@@ -12,9 +12,10 @@ use Rattle.line_pipeline.specs.declared.reasons.Reason.{Reason}
 use Rattle.line_pipeline.specs.declared.secrets.Secrets.{Secrets}
 use Rattle.line_pipeline.specs.Live.{Live, ending}
 use Rattle.line_pipeline.specs.Conn.{closed, place_used, refused, finished}
-use Rattle.line_pipeline.specs.Table.{Table, same_id, is_listed, conn_at, changed, all_changed}
+use Rattle.request_types.specs.Ids.{same_id, is_listed}
+use Rattle.line_pipeline.specs.Table.{Table, conn_at, changed, all_changed}
 use Rattle.line_pipeline.specs.Gathered.{batch_of}
-use Rattle.line_pipeline.proofs.Ids.{same_id-other, same_id-is}
+use Rattle.request_types.proofs.Ids.{same_id-other, same_id-is}
 
 pub both : (g h k : ConnId × Conn → ConnId × Conn) → ((c : ConnId × Conn) → g (h c) ≡ k c) → (cs : List (ConnId × Conn)) → map g (map h cs) ≡ map k cs
 both g h k each [] = refl

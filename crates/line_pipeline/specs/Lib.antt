@@ -5,3 +5,4 @@ pub mod Table
 pub mod Slots
 pub mod Gathered
 pub mod Settled
+pub mod Fitting

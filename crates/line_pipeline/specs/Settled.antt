@@ -9,11 +9,13 @@ use Rattle.line_pipeline.specs.declared.outcomes.Outcome.TheVariants as outcomes
 use Rattle.line_pipeline.specs.declared.conns.Conn.{Conn}
 use Rattle.line_pipeline.specs.declared.reasons.Reason.TheVariants as reasons
 use Rattle.line_pipeline.specs.Conn.{answered, place_used, closed, has_place}
-use Rattle.line_pipeline.specs.Table.{same_id, is_listed, are_once, conn_at, all_changed}
+use Rattle.request_types.specs.Batches.{conns_of}
+use Rattle.request_types.specs.Ids.{same_id, is_listed, are_once}
+use Rattle.line_pipeline.specs.Table.{conn_at, all_changed}
 
 -- The connections of a batch's items.
 abbrev pub asked_by : Batch → List ConnId
-asked_by batch = map (λ item. item.conn) batch.items
+asked_by batch = conns_of batch.items
 
 -- The connections that the parts answer.
 abbrev pub answered_by : List Part → List ConnId

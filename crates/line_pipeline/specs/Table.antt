@@ -1,6 +1,7 @@
 -- The connections that are held, each under its id.
-use Rattle.std.specs.Prelude.{◌≡◌, ℕ, ◌&&◌, ◌==◌, Bool, true, not, List, [], ◌∷◌, ◌++◌, map, Option, Some, None, is_some, if◌then◌else◌}
-use Rattle.std.specs.List.{list_any, filter}
+use Rattle.std.specs.Prelude.{◌≡◌, ℕ, Bool, not, List, [], ◌∷◌, ◌++◌, map, Option, Some, None, is_some, if◌then◌else◌}
+use Rattle.std.specs.List.{filter}
+use Rattle.request_types.specs.Ids.{same_id, is_listed}
 use Rattle.request_types.specs.declared.connections.ConnId.{ConnId}
 use Rattle.row_types.specs.declared.tables.Schema.{Schema}
 use Rattle.line_pipeline.specs.declared.conns.Conn.{Conn}
@@ -12,19 +13,6 @@ pub record Table : Type 0 where
   pub secrets : Secrets
   pub added : ℕ
   pub conns : List (ConnId × Conn)
-
--- Whether two ids are the same.
-abbrev pub same_id : ConnId → ConnId → Bool
-same_id a b = a.number == b.number && a.generation == b.generation
-
--- Whether an id is in a list.
-abbrev pub is_listed : List ConnId → ConnId → Bool
-is_listed ids id = list_any (λ other. same_id id other) ids
-
--- Whether no id is in a list twice.
-abbrev pub are_once : List ConnId → Bool
-are_once [] = true
-are_once (id ∷ ids) = not (is_listed ids id) && are_once ids
 
 -- The connection of this id, if it is held.
 abbrev pub conn_at : List (ConnId × Conn) → ConnId → Option Conn

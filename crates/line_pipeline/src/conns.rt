@@ -1,6 +1,8 @@
 //! A connection, live or closed.
 ghost use Rattle.std.specs.Prelude.{◌≡◌, ◌≤◌, [], ◌++◌, true, Some, length, OnOk, IfOk};
+ghost use Rattle.row_types.specs.Valid.{IsValid};
 ghost use Rattle.open_index.specs.Open.{IsNumbered};
+ghost use Rattle.line_pipeline.specs.Fitting.{ConnFits};
 ghost use Rattle.line_pipeline.specs.Output.{IsFront};
 
 use crate::changes::Change;
@@ -161,6 +163,7 @@ impl Conn {
         requires { IsNumbered schema.now }
         ensures items { OnOk result (items.new ≡ items.old ++ items_of schema.now id self.old) }
         ensures took { OnOk result (self.new ≡ took schema.now self.old) }
+        ensures fits { IsValid schema.now → ConnFits schema.now self.old → ConnFits schema.now self.new }
         ensures closes { (reason : Reason) → closed reason self.new ≡ closed reason self.old }
     {
         match self {

@@ -1,8 +1,13 @@
 //! From the held bytes of connections to the lines of one batch.
 ghost use Rattle.std.specs.Prelude.{◌≡◌, [], ◌∷◌, ◌++◌, true, if◌then◌else◌, OnOk, OnErr, IfOk};
 ghost use Rattle.std.specs.List.{AllByRecursion, filter};
+ghost use Rattle.row_types.specs.Valid.{IsValid};
+ghost use Rattle.request_types.specs.Fits.{ItemFits};
+ghost use Rattle.request_types.specs.Batches.{StandTogether};
 ghost use Rattle.line_pipeline.specs.Conn.{took, closed, refused};
-ghost use Rattle.line_pipeline.specs.Table.{are_once, changed, all_changed};
+ghost use Rattle.line_pipeline.specs.Fitting.{ConnsFit};
+ghost use Rattle.request_types.specs.Ids.{are_once};
+ghost use Rattle.line_pipeline.specs.Table.{changed, all_changed};
 ghost use Rattle.line_pipeline.specs.Gathered.{items_at, batch_of, is_asking, AreFound};
 ghost use Rattle.line_pipeline.specs.Settled.{asked_by, HasPlace};
 ghost use Rattle.line_pipeline.specs.declared.reasons.Reason.TheVariants as reasons;
@@ -20,6 +25,12 @@ impl ConnTable {
         requires { are_once ready.now ≡ true }
         ensures items { IfOk result (λ batch.
             batch.items ≡ batch_of self.old.schema self.old.conns ready.now) }
+
+        // What is asked of the tables fits their schema, and the items of each connection stand together.
+        ensures fits { IfOk result (λ batch. AllByRecursion (ItemFits self.old.schema) batch.items) }
+        ensures together { IfOk result (λ batch. StandTogether batch.items) }
+
+        // The connections go on without these lines, with a place for the replies to them.
         ensures took { OnOk result (self.new ≡ record self.old {
           conns = all_changed ready.now (took self.old.schema) self.old.conns;
         }) }
@@ -54,6 +65,8 @@ impl ConnTable {
     fn asking(&self, alloc: Global, ready: &[ConnId]) -> Result<Vec<ConnId>, AllocError>
         ensures asking { IfOk result (λ asking. asking.items ≡ filter (is_asking self.now.conns) ready.now) }
         ensures found { AreFound self.now.conns self.now.conns }
+        ensures valid { IsValid self.now.schema }
+        ensures fits { ConnsFit self.now.schema self.now.conns }
     {
         let _ = &self.slots;
         let mut asking = Vec::new(alloc);

@@ -1,6 +1,8 @@
 //! A connection that isn't closed.
 ghost use Rattle.std.specs.Prelude.{◌≡◌, ◌≤◌, ◌++◌, [], true, false, drop, length, OnOk, IfOk};
+ghost use Rattle.row_types.specs.Valid.{IsValid};
 ghost use Rattle.open_index.specs.Open.{IsNumbered};
+ghost use Rattle.open_index.specs.Fits.{HandlesFit};
 ghost use Rattle.hs_line.specs.Lines.{has_lf};
 ghost use Rattle.line_pipeline.specs.Output.{IsFront};
 ghost use Rattle.line_pipeline.specs.Live.{fresh, room_of, items_of, took, ending};
@@ -11,8 +13,8 @@ use crate::reading::{Reader, read_lines};
 use crate::reasons::Reason;
 use crate::taking::take_lines;
 use hs_line::LineBuf;
-use request_types::{ConnId, Item, Port};
 use open_index::{Auth, Handles, handles_new};
+use request_types::{ConnId, Item, Port};
 use row_types::{ByteText, List, Schema};
 use std::alloc::{AllocError, Global};
 use std::marker::Model;
@@ -148,6 +150,8 @@ impl LiveConn {
         requires { IsNumbered schema.now }
         ensures items { OnOk result (items.new ≡ items.old ++ items_of schema.now conn self.old) }
         ensures took { OnOk result (self.new ≡ took schema.now self.old) }
+        ensures fits { IsValid schema.now → HandlesFit schema.now self.old.handles
+            → HandlesFit schema.now self.new.handles }
     {
         if self.output.is_clogged() {
             return Ok(());

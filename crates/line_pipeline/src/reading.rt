@@ -1,11 +1,13 @@
 //! Reading lines one after another.
 ghost use Rattle.std.specs.Prelude.{◌≡◌, ◌++◌, map, OnOk, IfOk};
+ghost use Rattle.row_types.specs.Valid.{IsValid};
 ghost use Rattle.open_index.specs.Open.{IsNumbered};
+ghost use Rattle.open_index.specs.Fits.{HandlesFit};
 ghost use Rattle.line_pipeline.specs.Live.{kind_of, kinds_of, left_by, item_of};
 
 use bytes::Bytes;
-use request_types::{ConnId, Item, ItemKind, Port};
 use open_index::{Auth, Handles, Resolved, resolve_shared};
+use request_types::{ConnId, Item, ItemKind, Port};
 use row_types::{List, Schema};
 use std::alloc::{AllocError, Global};
 
@@ -43,6 +45,8 @@ pub fn read_lines(
         (kinds_of reader.now.schema.now reader.now.port handles.old auth.old lines.now)) }
     ensures left { OnOk result ((handles.new, auth.new)
         ≡ left_by reader.now.schema.now reader.now.port handles.old auth.old lines.now) }
+    ensures fits { IsValid reader.now.schema.now → HandlesFit reader.now.schema.now handles.old
+        → HandlesFit reader.now.schema.now handles.new }
 {
     for line in lines {
         let resolved = resolve_shared(alloc, reader.schema, reader.port, handles, auth, line)?;

@@ -2,14 +2,15 @@
 ghost use Rattle.std.specs.Prelude.{◌≡◌, true, false, map};
 ghost use Rattle.std.specs.List.{AllByRecursion};
 ghost use Rattle.line_pipeline.specs.Conn.{place_used, closed};
-ghost use Rattle.line_pipeline.specs.Table.{are_once, all_changed};
+ghost use Rattle.request_types.specs.Ids.{are_once};
+ghost use Rattle.line_pipeline.specs.Table.{all_changed};
 ghost use Rattle.line_pipeline.specs.Settled.{asked_by, answered_by, all_told, settled, parts_of, HasPlace, CanSettle};
 
-use crate::outcomes::Outcome;
-use request_types::{Batch, Item, Part};
 use crate::changes::Change;
+use crate::outcomes::Outcome;
 use crate::reasons::Reason;
 use crate::tables::ConnTable;
+use request_types::{Batch, Item, Part};
 use std::collections::VecDeque;
 
 impl ConnTable {

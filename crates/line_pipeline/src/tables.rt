@@ -1,6 +1,6 @@
 //! The connections that are held, and the small calls on one of them.
 ghost use Rattle.std.specs.Prelude.{ℕ, ◌≡◌, ◌+◌, ◌-◌, ◌<◌, ◌≤◌, ◌^◌, ◌⊎◌, ◌↔◌, [], ◌++◌, true, false, Some, None, Err, is_some, length, option_map, IfOk, OnOk, OnErr, IsTrue, IfSome};
-ghost use Rattle.open_index.specs.Open.{IsNumbered};
+ghost use Rattle.row_types.specs.Valid.{IsValid};
 ghost use Rattle.line_pipeline.specs.Output.{IsFront};
 ghost use Rattle.line_pipeline.specs.Conn.{state_of, room_of, unsent_of, fed, ended, sent_off, closed, finished, secret_of, applied, MayChange};
 ghost use Rattle.line_pipeline.specs.Live.{fresh};
@@ -33,8 +33,8 @@ pub struct ConnTable {
 
 impl Model for ConnTable {
     ghost use Rattle.std.specs.Prelude.{◌≤◌, ◌<◌, ◌^◌};
-    ghost use Rattle.open_index.specs.Open.{IsNumbered};
-    ghost use Rattle.line_pipeline.specs.Live.{fresh};
+    ghost use Rattle.row_types.specs.Valid.{IsValid};
+    ghost use Rattle.line_pipeline.specs.Fitting.{ConnsFit};
     ghost use Rattle.line_pipeline.specs.Table.{Table};
     ghost use Rattle.line_pipeline.specs.Slots.{conns_from};
 
@@ -47,13 +47,14 @@ impl Model for ConnTable {
       conns = conns_from 0 t.slots.slots;
     } };
 
-    // The numbers of 32 bits are enough, and the places of all connections are reserved.
-    ghost invariant = { λ t. IsNumbered t.schema × (256 ≤ t.slots.capacity) × (t.slots.capacity < 2 ^ 32) };
+    // The schema is valid, all open ids fit it, and the places of all connections are reserved.
+    ghost invariant = { λ t. IsValid t.schema × ConnsFit t.schema (conns_from 0 t.slots.slots)
+        × (256 ≤ t.slots.capacity) × (t.slots.capacity < 2 ^ 32) };
 }
 
 /// No connections, and the memory for the places of as many as may be.
 pub fn conns_new(alloc: Global, schema: Schema, secrets: Secrets) -> Result<ConnTable, AllocError>
-    requires { IsNumbered schema }
+    requires { IsValid schema }
     ensures { IfOk result (λ table. table ≡ record {
       schema = schema;
       secrets = secrets;

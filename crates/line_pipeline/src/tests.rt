@@ -1,7 +1,7 @@
 //! Connections over a whole life: what is taken of each, what it is sent, and why it is closed.
 ghost use Rattle.std.specs.Prelude.{◌≡◌, [], true, IfOk};
 ghost use Rattle.std.specs.List.{list_all};
-ghost use Rattle.line_pipeline.specs.Table.{are_once, is_listed};
+ghost use Rattle.request_types.specs.Ids.{are_once, is_listed};
 ghost use Rattle.line_pipeline.specs.Settled.{asked_by, answered_by, parts_of};
 
 use super::*;

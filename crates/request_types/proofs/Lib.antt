@@ -1,2 +1,3 @@
 pub mod CodeFacts
 pub mod FitFacts
+pub mod Ids

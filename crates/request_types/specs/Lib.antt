@@ -1,4 +1,6 @@
 pub mod Code
-pub mod Refusal
 pub mod Fits
 pub mod Names
+pub mod Refusal
+pub mod Ids
+pub mod Batches

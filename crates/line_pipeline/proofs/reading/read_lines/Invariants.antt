@@ -1,4 +1,6 @@
 use Rattle.std.proofs.Common.{◌≡◌, ◌++◌, drop, map}
+use Rattle.row_types.specs.Valid.{IsValid}
+use Rattle.open_index.specs.Fits.{HandlesFit}
 use Rattle.line_pipeline.specs.Live.{kinds_of, left_by, item_of}
 use Rattle.line_pipeline.proofs.reading.read_lines.Given as goal
 
@@ -9,3 +11,4 @@ invariant-loop-line l =
     (l.items ++ map (item_of l.reader.conn) (kinds_of schema port l.handles l.auth (drop l.line-index l.lines))
     ≡ l.fn.items ++ map (item_of l.reader.conn) (kinds_of schema port l.fn.handles l.fn.auth l.lines))
     × (left_by schema port l.handles l.auth (drop l.line-index l.lines) ≡ left_by schema port l.fn.handles l.fn.auth l.lines)
+    × (IsValid schema → HandlesFit schema l.fn.handles → HandlesFit schema l.handles)

@@ -7,7 +7,11 @@ use Rattle.line_pipeline.specs.declared.slots.Slot.{Slot}
 use Rattle.line_pipeline.specs.declared.reasons.AddFault.{AddFault}
 use Rattle.line_pipeline.specs.declared.reasons.AddFault.TheVariants as faults
 use Rattle.line_pipeline.specs.Conn.{secret_of}
-use Rattle.line_pipeline.specs.Live.{fresh}
+use Rattle.line_pipeline.specs.Live.{Live, fresh}
+use Rattle.open_index.specs.Fits.{HandleFits}
+use Rattle.line_pipeline.specs.Fitting.{ConnFits}
+use Rattle.line_pipeline.proofs.Fitting.{joined_fit}
+use Rattle.std.proofs.lemmas.List.Elements.{All-nil}
 use Rattle.line_pipeline.specs.Slots.{conns_from}
 use Rattle.line_pipeline.specs.Table.{Table, conn_at, Joins}
 use Rattle.line_pipeline.proofs.SlotLemmas.{zero_more, at_missing}
@@ -77,3 +81,16 @@ returns-clause-unheld c =
     let id : ConnId = record { number = c.insert_reserved-number.result; generation = o.added } in
     ap (λ (held : Option Conn). is_some held)
     (sym (ap (λ (t : Table). conn_at t.conns id) c.self.view_is) ∙ at_missing o.slots.slots id c.insert_reserved-number.ensures.was_vacant)
+
+pub invariant_of-self : goal.invariant_of-self
+invariant_of-self c =
+    let o = c.self.inside in
+    let u = c.insert_reserved-number.ensures.updates in
+    let new = c.insert_reserved-number.new.self.slots in
+    let id : ConnId = record { number = c.insert_reserved-number.result; generation = o.added } in
+    let slot : Slot = record { generation = o.added; conn = conns.Live c.in_ok-new.field-0 } in
+    let joins : Joins (conns_from 0 o.slots.slots) (conns_from 0 new) id (conns.Live c.in_ok-new.field-0) =
+    joins-from 0 id.number o.slots.slots new id slot (sym (zero_more id.number)) refl c.insert_reserved-number.ensures.was_vacant u.changed u.others in
+    let comes : ConnFits o.schema (conns.Live c.in_ok-new.field-0) = subst (λ (l : Live). ConnFits o.schema (conns.Live l)) (sym c.in_ok-new.ensures) (All-nil (HandleFits o.schema)) in
+    let capacity = c.insert_reserved-number.ensures.capacity in
+    (c.self.invariant.0, joined_fit o.schema _ _ id _ joins comes c.self.invariant.1, omega (arith, capacity, c.self.invariant.2), omega (arith, capacity, c.self.invariant.3))

@@ -4,9 +4,10 @@ use Rattle.request_types.specs.declared.connections.ConnId.{ConnId}
 use Rattle.request_types.specs.declared.batches.Part.{Part}
 use Rattle.line_pipeline.specs.declared.conns.Conn.{Conn}
 use Rattle.line_pipeline.specs.Conn.{answered}
-use Rattle.line_pipeline.specs.Table.{Table, is_listed, are_once, changed}
+use Rattle.request_types.specs.Ids.{is_listed, are_once}
+use Rattle.line_pipeline.specs.Table.{Table, changed}
 use Rattle.line_pipeline.specs.Settled.{all_told, answered_by, HasPlace}
-use Rattle.line_pipeline.proofs.Ids.{once-head, once-tail}
+use Rattle.request_types.proofs.Ids.{once-head, once-tail}
 use Rattle.line_pipeline.proofs.TableLemmas.{kept, kept_is}
 use Rattle.line_pipeline.proofs.SettleLemmas.{all_told-one, all_told-none, places-changed, no_first}
 use Rattle.line_pipeline.proofs.tables.ConnTable.answer_each.Goals as goal

@@ -1,7 +1,7 @@
 use Rattle.std.proofs.Common.{◌≡◌, true}
 use Rattle.std.specs.VecDeque.{deque_len}
 use Rattle.std.specs.List.{AllByRecursion}
-use Rattle.line_pipeline.specs.Table.{are_once}
+use Rattle.request_types.specs.Ids.{are_once}
 use Rattle.line_pipeline.specs.Settled.{all_told, answered_by, HasPlace}
 use Rattle.line_pipeline.proofs.tables.ConnTable.answer_each.Given as goal
 

@@ -3,6 +3,8 @@ use Rattle.request_types.specs.declared.connections.ConnId.{ConnId}
 use Rattle.line_pipeline.specs.declared.conns.Conn.{Conn}
 use Rattle.line_pipeline.specs.Conn.{applied, MayChange}
 use Rattle.line_pipeline.specs.Table.{Table, conn_at}
+use Rattle.line_pipeline.specs.Fitting.{ConnFits}
+use Rattle.line_pipeline.proofs.Fitting.{slot_fit, set_fit, applied_fit}
 use Rattle.line_pipeline.proofs.SlotLemmas.{at_found, changed_found, changed_missing, changed_stale}
 use Rattle.line_pipeline.proofs.tables.ConnTable.apply.Goals as goal
 
@@ -34,3 +36,11 @@ returns c =
     rw (← c.self.view_is)
     (ap (λ (cs : List (ConnId × Conn)). record { schema = o.schema; secrets = o.secrets; added = o.added; conns = cs })
     (changed_found o.slots.slots c.args.id (applied c.args.change) c.in-Some.slot.now c.apply.new.self (sym c.in-Some.ensures.value) c.if-slot-id.false c.apply.ensures))
+
+pub invariant_of-self-2 : goal.invariant_of-self-2
+invariant_of-self-2 c =
+    let o = c.self.inside in
+    let slot = c.in-Some.slot.now in
+    let was = slot_fit o.schema 0 c.args.id.number o.slots.slots slot (sym c.in-Some.ensures.value) c.self.invariant.1 in
+    let fits = subst (ConnFits o.schema) (sym c.apply.ensures) (applied_fit o.schema c.args.change slot.conn was) in
+    (c.self.invariant.0, set_fit o.schema 0 c.args.id.number o.slots.slots _ fits c.self.invariant.1, c.self.invariant.2, c.self.invariant.3)

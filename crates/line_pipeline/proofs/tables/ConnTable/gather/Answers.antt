@@ -8,10 +8,15 @@ use Rattle.line_pipeline.specs.Conn.{took, closed, refused}
 use Rattle.line_pipeline.specs.Table.{Table, all_changed}
 use Rattle.line_pipeline.specs.Gathered.{batch_of, is_asking}
 use Rattle.line_pipeline.specs.Settled.{HasPlace}
-use Rattle.line_pipeline.proofs.Ids.{once-filter}
+use Rattle.request_types.specs.Batches.{conns_of}
+use Rattle.request_types.proofs.Ids.{once-filter}
+use Rattle.request_types.specs.Fits.{ItemFits}
+use Rattle.request_types.specs.Batches.{StandTogether}
+use Rattle.line_pipeline.proofs.Fitting.{batch_fit}
+use Rattle.line_pipeline.proofs.Runs.{together}
 use Rattle.line_pipeline.proofs.TableLemmas.{kept_as}
 use Rattle.line_pipeline.proofs.GatherLemmas.{batch_of-asking, all_changed-asking, took-none, refused-asking, refused-none}
-use Rattle.line_pipeline.proofs.PlaceLemmas.{batch_placed, ids_of}
+use Rattle.line_pipeline.proofs.PlaceLemmas.{batch_placed}
 use Rattle.line_pipeline.proofs.tables.ConnTable.gather.Goals as goal
 
 pub take_each-requires : goal.take_each-requires
@@ -40,8 +45,8 @@ returns-in-Ok-take_each-clause-places c =
     let t = c.args.self.now in
     let items = returns-in-Ok-take_each-clause-items c in
     let conns = ap (λ (table : Table). table.conns) (returns-in-Ok-take_each-clause-took c) in
-    subst (λ (cs : List (ConnId × Conn)). AllByRecursion (HasPlace cs) (ids_of c.take_each.new.items)) (sym conns)
-    (subst (λ (its : List Item). AllByRecursion (HasPlace (all_changed c.args.ready.now (took t.schema) t.conns)) (ids_of its)) (sym items)
+    subst (λ (cs : List (ConnId × Conn)). AllByRecursion (HasPlace cs) (conns_of c.take_each.new.items)) (sym conns)
+    (subst (λ (its : List Item). AllByRecursion (HasPlace (all_changed c.args.ready.now (took t.schema) t.conns)) (conns_of its)) (sym items)
     (batch_placed t.schema t.conns c.args.ready.now))
 
 pub returns-clause-refused : goal.returns-clause-refused
@@ -55,3 +60,14 @@ returns-clause-refused c =
     ∙ c.in-Err-take_each.ensures.others
     ∙ ap (λ (r : List ConnId). all_changed r (closed reasons.BatchMemory) t.conns) ids
     ∙ all_changed-asking (closed reasons.BatchMemory) refused refused-asking refused-none t.conns c.args.ready.now t.conns c.in-Ok.ensures.found)
+
+pub returns-in-Ok-take_each-clause-fits : goal.returns-in-Ok-take_each-clause-fits
+returns-in-Ok-take_each-clause-fits c =
+    let t = c.args.self.now in
+    subst (AllByRecursion (ItemFits t.schema)) (sym (returns-in-Ok-take_each-clause-items c))
+    (batch_fit t.schema c.in-Ok.ensures.valid t.conns c.args.ready.now c.in-Ok.ensures.fits)
+
+pub returns-in-Ok-take_each-clause-together : goal.returns-in-Ok-take_each-clause-together
+returns-in-Ok-take_each-clause-together c =
+    let t = c.args.self.now in
+    subst StandTogether (sym (returns-in-Ok-take_each-clause-items c)) (together t.schema t.conns c.args.ready.now c.requires)

@@ -1,6 +1,9 @@
-use Rattle.std.proofs.Common.{◌≡◌, ◌∙◌, List, true, sym, ap}
+use Rattle.std.proofs.Common.{◌≡◌, ◌∙◌, List, Option, true, sym, ap, subst, arith}
 use Rattle.request_types.specs.declared.connections.ConnId.{ConnId}
 use Rattle.line_pipeline.specs.declared.conns.Conn.{Conn}
+use Rattle.line_pipeline.specs.declared.slots.Slot.{Slot}
+use Rattle.line_pipeline.specs.Fitting.{ConnsFit}
+use Rattle.line_pipeline.proofs.Fitting.{unset_fit}
 use Rattle.line_pipeline.specs.Slots.{conns_from}
 use Rattle.line_pipeline.specs.Table.{Table, is_held}
 use Rattle.line_pipeline.proofs.SlotLemmas.{slot_held, zero_more}
@@ -22,3 +25,10 @@ returns c =
     rw (← c.self.view_is)
     (ap (λ (cs : List (ConnId × Conn)). record { schema = o.schema; secrets = o.secrets; added = o.added; conns = cs })
     (ap (conns_from 0) c.remove.ensures.slots ∙ sym (without-from 0 c.args.conn.number slots c.args.conn found.slot (sym (zero_more c.args.conn.number)) found.there found.same)))
+
+pub invariant_of-self : goal.invariant_of-self
+invariant_of-self c =
+    let o = c.self.inside in
+    let fits = subst (λ (slots : List (Option Slot)). ConnsFit o.schema (conns_from 0 slots)) (sym c.remove.ensures.slots) (unset_fit o.schema 0 c.args.conn.number o.slots.slots c.self.invariant.1) in
+    let capacity = c.remove.ensures.capacity in
+    (c.self.invariant.0, fits, omega (arith, capacity, c.self.invariant.2), omega (arith, capacity, c.self.invariant.3))

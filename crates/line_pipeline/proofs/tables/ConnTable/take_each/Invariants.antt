@@ -1,6 +1,6 @@
 use Rattle.std.proofs.Common.{◌≡◌, drop, ◌++◌, true}
 use Rattle.line_pipeline.specs.Table.{all_changed}
-use Rattle.line_pipeline.specs.Table.{are_once}
+use Rattle.request_types.specs.Ids.{are_once}
 use Rattle.line_pipeline.specs.Conn.{took, closed}
 use Rattle.line_pipeline.specs.Gathered.{batch_of}
 use Rattle.line_pipeline.specs.declared.reasons.Reason.TheVariants as reasons

@@ -8,6 +8,7 @@ use Rattle.line_pipeline.specs.Conn.{took, closed}
 use Rattle.line_pipeline.specs.Slots.{conns_from}
 use Rattle.line_pipeline.specs.Table.{Table, conn_at, changed}
 use Rattle.line_pipeline.specs.Gathered.{items_at}
+use Rattle.line_pipeline.proofs.Fitting.{slot_fit, set_fit}
 use Rattle.line_pipeline.proofs.SlotLemmas.{at_found, at_missing, at_stale, changed_found, changed_missing, changed_stale, changed_anyway}
 use Rattle.line_pipeline.proofs.GatherLemmas.{items_at-found, items_at-missing, on_ok}
 use Rattle.line_pipeline.proofs.tables.ConnTable.take_one.Goals as goal
@@ -64,3 +65,11 @@ returns-clause-others c =
     let o = c.self.inside in
     changed_anyway o.slots.slots c.args.id (closed reasons.BatchMemory) c.in-Some.slot.now c.take.new.self (sym c.in-Some.ensures.value) c.if-slot-id.false (c.take.ensures.closes reasons.BatchMemory)
     ∙ ap (λ (t : Table). changed c.args.id (closed reasons.BatchMemory) t.conns) c.self.view_is
+
+pub invariant_of-self-2 : goal.invariant_of-self-2
+invariant_of-self-2 c =
+    let o = c.self.inside in
+    let slot = c.in-Some.slot.now in
+    let was = slot_fit o.schema 0 c.args.id.number o.slots.slots slot (sym c.in-Some.ensures.value) c.self.invariant.1 in
+    let fits = c.take.ensures.fits c.self.invariant.0 was in
+    (c.self.invariant.0, set_fit o.schema 0 c.args.id.number o.slots.slots _ fits c.self.invariant.1, c.self.invariant.2, c.self.invariant.3)

@@ -3,7 +3,7 @@ use Rattle.std.proofs.Common.{◌≡◌, ◌⊎◌, inl, inr, ℕ, Bool, true, f
 use Rattle.std.specs.List.{filter}
 use Rattle.std.proofs.lemmas.Bool.{cases_Bool, eqb-true, eq-eqb, and_parts, and_from, and_right, both_ways}
 use Rattle.request_types.specs.declared.connections.ConnId.{ConnId}
-use Rattle.line_pipeline.specs.Table.{same_id, is_listed, are_once}
+use Rattle.request_types.specs.Ids.{same_id, is_listed, are_once}
 
 -- equal ids are the same, and only these
 pub same_id-refl : (id : ConnId) → same_id id id ≡ true
