@@ -2,24 +2,19 @@
 --     part_ends, part_goes_on, rows_go_on      an item that ends its run, and one that doesn't
 --     ends_step, goes_step, rows_step      the same with all that was told before
 use Rattle.std.proofs.Common.{◌≡◌, ℕ, Bool, true, false, not, cond, List, [], ◌∷◌, ◌++◌, refl, ap, ap₂, sym, subst, ◌∙◌}
-use Rattle.std.specs.Prelude.{◌==◌}
-use Rattle.std.proofs.lemmas.Bool.{true≢false, and_parts, eqb-true, not-true}
+use Rattle.std.proofs.lemmas.Bool.{true≢false, not-true}
+use Rattle.request_types.proofs.Ids.{same_id-is}
 use Rattle.std.proofs.lemmas.List.{append_assoc, append-nil}
 use Rattle.request_types.specs.declared.connections.ConnId.{ConnId}
 use Rattle.request_types.specs.declared.batches.Item.{Item}
 use Rattle.request_types.specs.declared.batches.ItemKind.{ItemKind}
 use Rattle.request_types.specs.declared.batches.Part.{Part}
-use Rattle.line_pipeline.specs.Table.{same_id}
+use Rattle.request_types.specs.Ids.{same_id}
 use Rattle.table_rows.specs.Database.{Database}
 use Rattle.batch_answers.specs.Answers.{answered, replies_to, after_all}
-use Rattle.batch_answers.specs.Batches.{with_item, runs_of, parts_of, after_runs}
+use Rattle.request_types.specs.Batches.{with_item, runs_of}
+use Rattle.batch_answers.specs.Batches.{parts_of, after_runs}
 use Rattle.batch_answers.specs.Steps.{ends_run, first_behind}
-
--- an id that is the same is the same
-pub same_conn : (a b : ConnId) → same_id a b ≡ true → a ≡ b
-same_conn a b same =
-    let parts = and_parts (a.number == b.number) (a.generation == b.generation) same in
-    ap₂ (λ (n g : ℕ). record { number = n; generation = g }) (eqb-true a.number b.number parts.0) (eqb-true a.generation b.generation parts.1)
 
 pub behind_none : (parts : List Part) → first_behind [] parts ≡ parts
 behind_none [] = refl
@@ -35,7 +30,7 @@ headed item (run ∷ runs) = by_same (same_id item.conn run.0)
     by_same false = (item.kind ∷ [], run ∷ runs, refl)
 
 -- an item that ends its run stands alone before the others
-ends_alone : (item : Item) (rest : List Item) → ends_run (item ∷ rest) ≡ true → runs_of (item ∷ rest) ≡ (item.conn, item.kind ∷ []) ∷ runs_of rest
+pub ends_alone : (item : Item) (rest : List Item) → ends_run (item ∷ rest) ≡ true → runs_of (item ∷ rest) ≡ (item.conn, item.kind ∷ []) ∷ runs_of rest
 ends_alone item [] ends = refl
 ends_alone item (next ∷ later) ends =
     let first = headed next (runs_of later) in
@@ -43,14 +38,14 @@ ends_alone item (next ∷ later) ends =
     (rw (not-true (same_id item.conn next.conn) ends) refl)
 
 -- any other stands in the run behind it
-goes_on : (item : Item) (rest : List Item) → ends_run (item ∷ rest) ≡ false → (kinds : List ItemKind) × (later : List (ConnId × List ItemKind)) × (runs_of rest ≡ (item.conn, kinds) ∷ later) × (runs_of (item ∷ rest) ≡ (item.conn, item.kind ∷ kinds) ∷ later)
+pub goes_on : (item : Item) (rest : List Item) → ends_run (item ∷ rest) ≡ false → (kinds : List ItemKind) × (later : List (ConnId × List ItemKind)) × (runs_of rest ≡ (item.conn, kinds) ∷ later) × (runs_of (item ∷ rest) ≡ (item.conn, item.kind ∷ kinds) ∷ later)
 goes_on item [] ends = absurd (true≢false ends)
 goes_on item (next ∷ later) ends = by_same (same_id item.conn next.conn) refl ends
   where
     by_same : (b : Bool) → same_id item.conn next.conn ≡ b → not b ≡ false → (kinds : List ItemKind) × (rest : List (ConnId × List ItemKind)) × (runs_of (next ∷ later) ≡ (item.conn, kinds) ∷ rest) × (runs_of (item ∷ next ∷ later) ≡ (item.conn, item.kind ∷ kinds) ∷ rest)
     by_same true same no_end =
         let first = headed next (runs_of later) in
-        let conn = same_conn item.conn next.conn same in (
+        let conn = same_id-is item.conn next.conn same in (
           first.0,
           first.1,
           first.2 ∙ ap (λ (c : ConnId). (c, first.0) ∷ first.1) (sym conn),

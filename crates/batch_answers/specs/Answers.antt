@@ -1,6 +1,8 @@
 -- What items are answered, and the rows that they leave.
-use Rattle.std.specs.Prelude.{ℕ, List, [], ◌∷◌, ◌++◌, length, get_or, set, Option, Some, None, Result, Ok, Err, if◌then◌else◌}
+use Rattle.std.specs.Prelude.{◌≡◌, ℕ, List, [], ◌∷◌, ◌++◌, length, map, get_or, set, Option, Some, None, Result, Ok, Err, if◌then◌else◌}
+use Rattle.std.specs.List.{AllByRecursion, filter}
 use Rattle.std.specs.declared.cmp.Ordering.{Ordering}
+use Rattle.hs_line.specs.Lines.{IsLine, joined}
 use Rattle.index_tree.specs.Ordered.{with_item}
 use Rattle.row_types.specs.declared.values.Value.{Value}
 use Rattle.row_types.specs.Order.{key_cmp}
@@ -22,6 +24,11 @@ use Rattle.find_scan.specs.declared.replies.Rendered.TheVariants.{Fits, TooBig}
 use Rattle.row_insert.specs.Refusal.{refusal_of}
 use Rattle.row_insert.specs.Insert.{new_row}
 use Rattle.find_modify.specs.Change.{changed_all}
+use Rattle.request_types.specs.declared.connections.ConnId.{ConnId}
+use Rattle.request_types.specs.declared.batches.Item.{Item}
+use Rattle.request_types.specs.declared.batches.Part.{Part}
+use Rattle.request_types.specs.Ids.{same_id}
+use Rattle.request_types.specs.Batches.{heads, runs_of}
 use Rattle.request_types.specs.declared.batches.ItemKind.{ItemKind}
 use Rattle.request_types.specs.declared.batches.ItemKind.TheVariants as kinds
 use Rattle.table_rows.specs.Database.{Database, database_of, placed_in, rows_alone}
@@ -106,3 +113,42 @@ replies_to db (kind ∷ kinds) = (answered db kind).0 ++ replies_to (answered db
 abbrev pub after_all : Database → List ItemKind → Database
 after_all db [] = db
 after_all db (kind ∷ kinds) = after_all (answered db kind).1 kinds
+
+-- What each item is answered, beside its connection, on the rows that the one before it left.
+abbrev pub answers : Database → List Item → List (ConnId × List ℕ)
+answers db [] = []
+answers db (item ∷ items) = (item.conn, (answered db item.kind).0) ∷ answers (answered db item.kind).1 items
+
+-- The rows that the items of a batch leave.
+abbrev pub after : Database → List Item → Database
+after db [] = db
+after db (item ∷ items) = after (answered db item.kind).1 items
+
+-- The replies to a connection's items, one after another.
+abbrev pub replies_for : ConnId → List (ConnId × List ℕ) → List ℕ
+replies_for id [] = []
+replies_for id (reply ∷ replies) =
+    if same_id reply.0 id then reply.1 ++ replies_for id replies else replies_for id replies
+
+-- The part of a connection: all replies to its items.
+abbrev pub part_for : List (ConnId × List ℕ) → ConnId → Part
+part_for replies id = record { conn = id; text = replies_for id replies }
+
+-- A part for each connection of the batch, in the order of their items.
+abbrev pub parts_for : Database → List Item → List Part
+parts_for db items = map (part_for (answers db items)) (heads (runs_of items))
+
+-- A reply is one line with its line feed.
+abbrev pub IsReply : List ℕ → Type 0
+IsReply reply = (line : List ℕ) × IsLine line × (reply ≡ line ++ 10 ∷ [])
+
+-- The items of a connection.
+abbrev pub items_for : ConnId → List Item → List Item
+items_for id items = filter (λ item. same_id item.conn id) items
+
+-- Replies that are as many lines as there are items, each with its line feed, and nothing else.
+pub record AreLines (replies : List ℕ) (items : List Item) : Type 0 where
+  pub lines : List (List ℕ)
+  pub each : AllByRecursion IsLine lines
+  pub count : length lines ≡ length items
+  pub is : replies ≡ joined lines []

@@ -4,7 +4,7 @@ use Rattle.find_modify.specs.declared.modifies.Modified.{Modified}
 use Rattle.find_modify.specs.declared.modifies.Modified.TheVariants.{Done, Refused}
 use Rattle.request_types.specs.declared.batches.Item.{Item}
 use Rattle.request_types.specs.declared.batches.Part.{Part}
-use Rattle.line_pipeline.specs.Table.{same_id}
+use Rattle.request_types.specs.Ids.{same_id}
 use Rattle.batch_answers.specs.Replies.{code_reply}
 
 -- What is answered where a change gave this, and this reply is meant for one that is done.

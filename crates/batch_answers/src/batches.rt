@@ -2,7 +2,11 @@
 ghost use Rattle.std.specs.Prelude.{◌≡◌, ◌<◌, drop, length, IfOk, OnOk, OnErr};
 ghost use Rattle.std.specs.List.{AllByRecursion};
 ghost use Rattle.table_rows.specs.Database.{database_of};
-ghost use Rattle.batch_answers.specs.Batches.{ItemFits, runs_of, parts_of, after_runs};
+ghost use Rattle.request_types.specs.Batches.{runs_of, StandTogether};
+ghost use Rattle.request_types.specs.Fits.{ItemFits};
+ghost use Rattle.table_rows.specs.Widths.{IsRoomier};
+ghost use Rattle.batch_answers.specs.Answers.{after, parts_for};
+ghost use Rattle.batch_answers.specs.Batches.{parts_of, after_runs};
 ghost use Rattle.table_rows.specs.GoingBack.{CanGoBack};
 ghost use Rattle.batch_answers.specs.Steps.{ends_run};
 
@@ -23,13 +27,19 @@ pub fn run_batch(
 ) -> Result<Replies, AllocError>
     requires schema { schema.now ≡ tables.old.schema }
     requires items { AllByRecursion (ItemFits schema.now) batch.now.items }
+    requires together { StandTogether batch.now.items }
     ensures parts { IfOk result (λ replies.
-        replies.parts ≡ parts_of (database_of tables.old) (runs_of batch.now.items)) }
+        replies.parts ≡ parts_for (database_of tables.old) batch.now.items) }
     ensures rows { OnOk result
-        (database_of tables.new ≡ after_runs (database_of tables.old) (runs_of batch.now.items)) }
+        (database_of tables.new ≡ after (database_of tables.old) batch.now.items) }
     ensures schema { tables.new.schema ≡ tables.old.schema }
-    // Without memory all rows are as they were, and no change is noted.
-    ensures err { OnErr result (database_of tables.new ≡ database_of tables.old) }
+
+    // What the batch changed is noted behind what was noted before, and can be taken back.
+    ensures noted { OnOk result
+        (CanGoBack tables.old tables.new undo.old.entries undo.new.entries) }
+
+    // Without memory each row is where it was, slots may be more, and no change is noted.
+    ensures err { OnErr result (IsRoomier tables.old tables.new) }
     ensures unnoted { OnErr result (undo.new.entries ≡ undo.old.entries) }
 {
     let mark = undo.mark();

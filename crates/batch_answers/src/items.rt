@@ -2,7 +2,7 @@
 ghost use Rattle.std.specs.Prelude.{◌≡◌, ◌++◌, OnOk};
 ghost use Rattle.table_rows.specs.Database.{database_of};
 ghost use Rattle.batch_answers.specs.Answers.{answered};
-ghost use Rattle.batch_answers.specs.Batches.{KindFits};
+ghost use Rattle.request_types.specs.Fits.{KindFits};
 ghost use Rattle.table_rows.specs.GoingBack.{CanGoBack};
 
 use crate::changes::answer_change;

@@ -1,12 +1,16 @@
 //! What requests are answered, by examples.
-ghost use Rattle.std.specs.Prelude.{◌≡◌, [], ◌∷◌, true, false};
+ghost use Rattle.std.specs.Prelude.{◌≡◌, List, [], ◌∷◌, true, false};
 ghost use Rattle.row_types.specs.Valid.{IsValid};
 ghost use Rattle.request_types.specs.declared.finds.FindOp.TheVariants.{LessEqual, GreaterEqual};
 ghost use Rattle.request_types.specs.declared.mods.ModKind.TheVariants.{Update, Add, Remove};
 ghost use Rattle.request_types.specs.declared.requests.Request.TheVariants.{Find, Modify, Insert};
 ghost use Rattle.find_scan.specs.Examples.{int, row, find_of};
 ghost use Rattle.batch_answers.specs.Replies.{code_reply, count_reply};
-ghost use Rattle.batch_answers.specs.Answers.{request_answered};
+ghost use Rattle.request_types.specs.declared.connections.ConnId.{ConnId};
+ghost use Rattle.request_types.specs.declared.batches.Item.{Item};
+ghost use Rattle.request_types.specs.declared.batches.ItemKind.{ItemKind};
+ghost use Rattle.table_rows.specs.Database.{Database};
+ghost use Rattle.batch_answers.specs.Answers.{request_answered, answered, answers, replies_for, items_for, IsReply, AreLines};
 ghost use Rattle.batch_answers.specs.Examples.{tested, rows_within, four, showing, change_by, insert_of};
 
 /// Requests on the rows (1, a, 4), (2, b, 4), (3, c, 4) and (4, d, 6), by id or by the last number.
@@ -52,4 +56,11 @@ pub fn worked_answers()
     ensures full { request_answered (rows_within 0 four)
         (Insert (insert_of (0 ∷ 2 ∷ []) (int 0 ∷ int 7 ∷ [])))
         ≡ (code_reply 19, rows_within 0 four) }
+{}
+
+/// Each item is answered by one line, and each connection by as many lines as it has items.
+pub fn items_are_answered_by_lines()
+    ensures each { (db : Database) (kind : ItemKind) → IsReply (answered db kind).0 }
+    ensures of_a_connection { (db : Database) (items : List Item) (id : ConnId)
+        → AreLines (replies_for id (answers db items)) (items_for id items) }
 {}

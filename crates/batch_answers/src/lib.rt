@@ -26,4 +26,4 @@ mod laws;
 mod tests;
 
 pub use batches::run_batch;
-pub use laws::worked_answers;
+pub use laws::{items_are_answered_by_lines, worked_answers};

@@ -4,7 +4,7 @@ ghost use Rattle.std.specs.List.{AllByRecursion};
 ghost use Rattle.row_types.specs.declared.values.Value.TheVariants as values;
 ghost use Rattle.table_rows.specs.Sizes.{most_bytes};
 ghost use Rattle.open_index.specs.Fits.{HandlesFit};
-ghost use Rattle.batch_answers.specs.Batches.{KindFits, ItemFits};
+ghost use Rattle.request_types.specs.Fits.{KindFits, ItemFits};
 ghost use Rattle.batch_answers.specs.Examples.{people_columns, people_indexes, blob_columns, blob_indexes, tested};
 
 use crate::{run_batch, worked_answers};

@@ -4,7 +4,9 @@ use Rattle.std.proofs.lemmas.List.{drop_more}
 use Rattle.request_types.specs.declared.batches.Item.{Item}
 use Rattle.request_types.specs.declared.batches.Part.{Part}
 use Rattle.table_rows.specs.Database.{database_of}
-use Rattle.batch_answers.specs.Batches.{ItemFits, runs_of, parts_of, after_runs}
+use Rattle.request_types.specs.Batches.{runs_of}
+use Rattle.request_types.specs.Fits.{ItemFits}
+use Rattle.batch_answers.specs.Batches.{parts_of, after_runs}
 use Rattle.batch_answers.specs.Steps.{first_behind}
 use Rattle.table_rows.proofs.GoingBack.{goes_schema, goes_none, goes_then}
 use Rattle.batch_answers.proofs.Runs.{behind_none, ends_step, goes_step, rows_step}

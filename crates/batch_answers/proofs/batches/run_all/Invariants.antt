@@ -1,7 +1,9 @@
 use Rattle.std.proofs.Common.{◌≡◌, ◌++◌, drop}
 use Rattle.std.specs.List.{AllByRecursion}
 use Rattle.table_rows.specs.Database.{database_of}
-use Rattle.batch_answers.specs.Batches.{ItemFits, runs_of, parts_of, after_runs}
+use Rattle.request_types.specs.Batches.{runs_of}
+use Rattle.request_types.specs.Fits.{ItemFits}
+use Rattle.batch_answers.specs.Batches.{parts_of, after_runs}
 use Rattle.table_rows.specs.GoingBack.{CanGoBack}
 use Rattle.batch_answers.specs.Steps.{first_behind}
 use Rattle.batch_answers.proofs.batches.run_all.Given as goal

@@ -1,7 +1,7 @@
 use Rattle.std.proofs.Common.{◌≡◌}
 use Rattle.std.specs.List.{AllByRecursion}
 use Rattle.open_index.specs.Fits.{HandlesFit}
-use Rattle.batch_answers.specs.Batches.{ItemFits}
+use Rattle.request_types.specs.Fits.{ItemFits}
 use Rattle.batch_answers.specs.Examples.{tested}
 use Rattle.batch_answers.proofs.tests.any_byte_goes_in_and_comes_out.Given as goal
 

@@ -1,7 +1,7 @@
 use Rattle.std.proofs.Common.{◌≡◌}
 use Rattle.std.specs.List.{AllByRecursion}
 use Rattle.open_index.specs.Fits.{HandlesFit}
-use Rattle.batch_answers.specs.Batches.{ItemFits}
+use Rattle.request_types.specs.Fits.{ItemFits}
 use Rattle.batch_answers.specs.Examples.{tested}
 use Rattle.batch_answers.proofs.tests.rows_are_found_by_an_index_a_list_or_a_filter.Given as goal
 
