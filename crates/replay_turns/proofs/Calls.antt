@@ -1,13 +1,11 @@
 -- What a call of a link makes of a connection.
-use Rattle.std.proofs.Common.{◌≡◌, ℕ, zero, suc, ◌+◌, ◌-◌, ◌<◌, ◌≤◌, Bool, true, false, eqb, List, [], ◌∷◌, ◌++◌, length, take, drop, Option, Some, None, option_map, refl, sym, ap, subst, ◌∙◌, ⊎_elim, inl, arith, length-append, length-take-le}
+use Rattle.std.proofs.Common.{◌≡◌, ℕ, zero, suc, ◌+◌, ◌<◌, ◌≤◌, Bool, true, false, eqb, List, [], ◌∷◌, ◌++◌, length, take, drop, Option, Some, None, option_map, refl, sym, ap, subst, ◌∙◌, inl, arith, length-append, length-take-le}
 use Rattle.std.specs.Prelude.{min, ◌↔◌, ◌⊎◌, IsTrue, unwrap_or}
-use Rattle.std.proofs.lemmas.Bool.{cases_Bool, ne_eqb}
+use Rattle.std.proofs.lemmas.Bool.{ne_eqb}
 use Rattle.std.proofs.lemmas.List.{take_all, drop_all}
 use Rattle.hs_outside.specs.Links.{Received, Took, HasNone}
 use Rattle.hs_outside.specs.MemoryLink.{LinkInMemory, known_link}
-use Rattle.hs_outside.specs.declared.links.Recv.{Recv}
 use Rattle.hs_outside.specs.declared.links.Recv.TheVariants as recvs
-use Rattle.hs_outside.specs.declared.links.Sent.{Sent}
 use Rattle.hs_outside.specs.declared.links.Sent.TheVariants as sents
 use Rattle.hs_outside.specs.Links.{Peer}
 use Rattle.line_pipeline.specs.declared.conns.Conn.{Conn}
@@ -17,7 +15,8 @@ use Rattle.line_pipeline.specs.Table.{Table, conn_at, is_held, changed}
 use Rattle.replay_turns.specs.declared.entries.Entry.{Entry}
 use Rattle.replay_turns.specs.Linked.{Linked}
 use Rattle.replay_turns.specs.Receiving.{heard}
-use Rattle.replay_turns.specs.Entries.{conn_of, beside, linked}
+use Rattle.line_pipeline.specs.Gathered.{conn_of}
+use Rattle.replay_turns.specs.Entries.{beside, linked}
 use Rattle.replay_turns.specs.Steps.{pulled, SendStep}
 use Rattle.replay_turns.proofs.Lookups.{conn_of-own, found-is}
 use Rattle.replay_turns.proofs.Pulling.{with_bytes, at_end, pulled-some, pulled-end}

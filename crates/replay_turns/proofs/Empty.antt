@@ -3,9 +3,9 @@ use Rattle.std.proofs.Common.{◌≡◌, ℕ, List, [], ◌∷◌, map, refl, ap
 use Rattle.row_types.specs.declared.values.Value.{Value}
 use Rattle.row_types.specs.declared.tables.TableDef.{TableDef}
 use Rattle.row_types.specs.declared.tables.Schema.{Schema}
-use Rattle.table_rows.specs.Rows.{Rows, no_rows}
+use Rattle.table_rows.specs.Rows.{no_rows}
 use Rattle.table_rows.specs.Widths.{empty_state}
-use Rattle.table_rows.specs.Database.{Database, rows_in, database_of, empty_database}
+use Rattle.table_rows.specs.Database.{rows_in, database_of, empty_database}
 
 none_in : (defs : List TableDef) → map rows_in (map (λ (def : TableDef). no_rows) defs) ≡ map (λ (def : TableDef). []) defs
 none_in [] = refl

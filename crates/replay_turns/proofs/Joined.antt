@@ -1,18 +1,18 @@
 -- One more connection.
-use Rattle.std.proofs.Common.{◌≡◌, ℕ, zero, suc, Bool, true, false, ◌||◌, List, [], ◌∷◌, ◌++◌, map, Option, Some, None, is_some, refl, sym, ap, subst, ◌∙◌, ⊎_elim}
+use Rattle.std.proofs.Common.{◌≡◌, true, false, List, [], ◌∷◌, ◌++◌, Option, Some, is_some, refl, sym, ap, subst, ◌∙◌, ⊎_elim}
 use Rattle.std.specs.Prelude.{if◌then◌else◌}
 use Rattle.std.specs.List.{AllByRecursion}
 use Rattle.std.proofs.lemmas.Bool.{cases_Bool, or_parts, both_ways}
 use Rattle.std.proofs.lemmas.List.{map-append}
 use Rattle.request_types.specs.declared.connections.ConnId.{ConnId}
-use Rattle.row_types.specs.declared.tables.Schema.{Schema}
-use Rattle.row_types.specs.Valid.{IsValid}
 use Rattle.line_pipeline.specs.declared.conns.Conn.{Conn}
-use Rattle.line_pipeline.specs.Table.{Table, same_id, is_listed, are_once, conn_at, is_held, Joins}
-use Rattle.line_pipeline.proofs.Ids.{same_id-refl, same_id-is, same_id-other, once-head, once-tail}
+use Rattle.request_types.specs.Ids.{same_id, is_listed, are_once}
+use Rattle.line_pipeline.specs.Table.{Table, conn_at, is_held, Joins}
+use Rattle.request_types.proofs.Ids.{same_id-refl, same_id-is, same_id-other, once-head, once-tail}
 use Rattle.replay_turns.specs.declared.entries.Entry.{Entry}
 use Rattle.replay_turns.specs.Linked.{Linked}
-use Rattle.replay_turns.specs.Entries.{conn_or_none, conn_of, beside, linked, all_linked, ids_of, ConnFits, IsEntry, AreEntries}
+use Rattle.line_pipeline.specs.Gathered.{conn_or_none}
+use Rattle.replay_turns.specs.Entries.{beside, linked, all_linked, ids_of, IsEntry, AreEntries}
 use Rattle.replay_turns.proofs.Places.{KeepsOthers, all_linked-other, entries-other}
 
 module _ (id : ConnId) (conn : Conn) (after : List (ConnId × Conn)) where
@@ -61,6 +61,19 @@ once_end (e ∷ es) f none once =
     let apart : is_listed (ids_of (es ++ f ∷ [])) e.id ≡ false = listed_end es f e.id (once-head e.id (ids_of es) once) (same_id-other f.id e.id parts.0) in
     rw apart (once_end es f parts.1 (once-tail e.id (ids_of es) once))
 
+old_end : (es : List Entry) (f : Entry) (id : ConnId) → is_listed (ids_of es) id ≡ true → is_listed (ids_of (es ++ f ∷ [])) id ≡ true
+old_end [] f id listed = absurd (both_ways false refl listed)
+old_end (e ∷ es) f id listed =
+    ⊎_elim
+    (λ same. rw same refl)
+    (λ other. let later : is_listed (ids_of (e ∷ es)) id ≡ is_listed (ids_of es) id = rw other refl in rw other (old_end es f id (sym later ∙ listed)))
+    (cases_Bool (same_id id e.id))
+
+own_end : (es : List Entry) (f : Entry) (id : ConnId) → same_id id f.id ≡ true → is_listed (ids_of (es ++ f ∷ [])) id ≡ true
+own_end [] f id same = rw same refl
+own_end (e ∷ es) f id same =
+    ⊎_elim (λ here. rw here refl) (λ other. rw other (own_end es f id same)) (cases_Bool (same_id id e.id))
+
 each_end : (table : Table) (es : List Entry) (f : Entry) → AllByRecursion (IsEntry table) es → IsEntry table f → AllByRecursion (IsEntry table) (es ++ f ∷ [])
 each_end table [] f each is = (is, tt)
 each_end table (e ∷ es) f each is = (each.0, each_end table es f each.1 is)
@@ -69,19 +82,25 @@ module _ (old new : Table) (schema : new.schema ≡ old.schema) (f : Entry) (con
   others : KeepsOthers f.id old.conns new.conns
   others = joined-others old.conns new.conns f.id conn joins
 
-  pub entries_joined : ((s : Schema) → ConnFits s conn) → f.has_ended ≡ f.link.peer_ended → AreEntries new (es ++ f ∷ [])
-  entries_joined fits ended =
+  whole : (id : ConnId) → is_held new.conns id ≡ true → is_listed (ids_of (es ++ f ∷ [])) id ≡ true
+  whole id held =
+      ⊎_elim
+      (λ same. own_end es f id same)
+      (λ other. old_end es f id (are.whole id (sym (ap (λ (o : Option Conn). is_some o) (others id other)) ∙ held)))
+      (cases_Bool (same_id id f.id))
+
+  pub entries_joined : f.has_ended ≡ f.link.peer_ended → AreEntries new (es ++ f ∷ [])
+  entries_joined ended =
       let at : conn_at new.conns f.id ≡ Some conn = joined-own old.conns new.conns f.id conn joins none in
       let apart = unlisted old es f.id none are.each in
       record {
-        valid = subst IsValid (sym schema) are.valid;
         once = once_end es f apart are.once;
         each = each_end new es f (entries-other f.id old new schema others es apart are.each)
             (record {
               held = ap (λ (o : Option Conn). is_some o) at;
-              fits = subst (λ (o : Option Conn). ConnFits new.schema (conn_or_none o)) (sym at) (fits new.schema);
               ended = ended;
             });
+        whole = whole;
       }
 
   pub linked_joined : all_linked new.conns (es ++ f ∷ []) ≡ all_linked old.conns es ++ beside conn f ∷ []

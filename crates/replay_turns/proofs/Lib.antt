@@ -3,8 +3,6 @@ pub mod Rooms
 pub mod Pulling
 pub mod Sends
 pub mod Places
-pub mod Fitting
-pub mod Runs
 pub mod Settling
 pub mod Calls
 mod Shows

@@ -1,11 +1,9 @@
 -- The entry of a number, and what a change of it makes of the connections.
-use Rattle.std.proofs.Common.{◌≡◌, ℕ, zero, suc, ◌+◌, ◌<◌, ◌≤◌, Bool, true, false, eqb, ◌||◌, not, ◌&&◌, List, [], ◌∷◌, ◌++◌, length, get_or, set, map, Option, Some, None, is_some, refl, sym, ap, subst, ◌∙◌, ⊎_elim, arith}
+use Rattle.std.proofs.Common.{◌≡◌, ℕ, zero, suc, ◌+◌, ◌<◌, true, false, eqb, not, List, [], ◌∷◌, length, get_or, set, Option, Some, None, is_some, refl, sym, ap, subst, ◌∙◌, ⊎_elim, arith}
 use Rattle.std.specs.Prelude.{if◌then◌else◌}
 use Rattle.std.specs.List.{AllByRecursion, remove}
 use Rattle.std.proofs.lemmas.Bool.{cases_Bool, or_parts, both_ways, eqb-true}
 use Rattle.request_types.specs.declared.connections.ConnId.{ConnId}
-use Rattle.row_types.specs.declared.tables.Schema.{Schema}
-use Rattle.row_types.specs.Valid.{IsValid}
 use Rattle.line_pipeline.specs.declared.conns.Conn.{Conn}
 use Rattle.line_pipeline.specs.declared.conns.Conn.TheVariants as conns
 use Rattle.line_pipeline.specs.declared.reasons.Reason.{Reason}
@@ -14,14 +12,16 @@ use Rattle.line_pipeline.specs.declared.reasons.ConnState.{ConnState}
 use Rattle.line_pipeline.specs.declared.reasons.ConnState.TheVariants as states
 use Rattle.line_pipeline.specs.Live.{Live}
 use Rattle.line_pipeline.specs.Conn.{state_of}
-use Rattle.line_pipeline.specs.Table.{Table, same_id, is_listed, are_once, conn_at, is_held, without}
-use Rattle.line_pipeline.proofs.Ids.{same_id-refl, same_id-is, same_id-other, once-head, once-tail}
+use Rattle.request_types.specs.Ids.{same_id, is_listed, are_once}
+use Rattle.line_pipeline.specs.Table.{Table, conn_at, is_held, without}
+use Rattle.request_types.proofs.Ids.{same_id-refl, same_id-is, same_id-other, once-head, once-tail}
 use Rattle.replay_turns.specs.declared.entries.Entry.{Entry}
 use Rattle.replay_turns.specs.Linked.{Linked, linked_at, has_ended, on}
 use Rattle.replay_turns.specs.Sending.{passed, on_sending}
 use Rattle.replay_turns.specs.Connected.{Connected}
 use Rattle.replay_turns.proofs.Lookups.{keeps-none}
-use Rattle.replay_turns.specs.Entries.{conn_or_none, conn_of, beside, linked, all_linked, place_from, id_at, ids_of, ConnFits, IsEntry, AreEntries, Keeps, KeepsLink}
+use Rattle.line_pipeline.specs.Gathered.{conn_or_none}
+use Rattle.replay_turns.specs.Entries.{beside, linked, all_linked, place_from, id_at, ids_of, IsEntry, AreEntries, Keeps, KeepsLink}
 
 -- The first entry with this number is at this place.
 abbrev pub Found : ℕ → List Entry → ℕ → Type 0
@@ -124,7 +124,6 @@ module _ (id : ConnId) (old new : Table) (schema-kept : new.schema ≡ old.schem
       let same = others e.id other in
       record {
         held = ap (λ (o : Option Conn). is_some o) same ∙ is.held;
-        fits = subst (λ (s : Schema). ConnFits s (conn_of new.conns e.id)) (sym schema-kept) (subst (λ (o : Option Conn). ConnFits old.schema (conn_or_none o)) (sym same) is.fits);
         ended = is.ended;
       }
 
@@ -145,10 +144,8 @@ module _ (id : ConnId) (old new : Table) (keeps : Keeps id old new) where
   entry-own e f id_is link is =
       let same : f.id ≡ id = ap (λ (x : Entry). x.id) link.rest ∙ id_is in
       let held : is_held old.conns id ≡ true = subst (λ (x : ConnId). is_held old.conns x ≡ true) id_is is.held in
-      let fits : ConnFits old.schema (conn_of old.conns id) = subst (λ (x : ConnId). ConnFits old.schema (conn_of old.conns x)) id_is is.fits in
       record {
         held = subst (λ (x : ConnId). is_held new.conns x ≡ true) (sym same) (keeps.held held);
-        fits = subst (λ (x : ConnId). ConnFits new.schema (conn_of new.conns x)) (sym same) (subst (λ (s : Schema). ConnFits s (conn_of new.conns id)) (sym (ap (λ (t : Table). t.schema) keeps.rest)) (keeps.fits fits));
         ended = ap (λ (x : Entry). x.has_ended) link.rest ∙ is.ended ∙ sym link.ended;
       }
 
@@ -173,11 +170,19 @@ module _ (old new : Table) (d f : Entry) where
         each-set es at (omega arith) (once-tail e.id (ids_of es) once) keeps link each.1,
       )
 
+  -- a connection that is held is this one, whose entry is there, or was held before
+  whole-set : (es : List Entry) (at : ℕ) → at < length es → Keeps (get_or es at d).id old new → AreEntries old es → (id : ConnId) → is_held new.conns id ≡ true → is_listed (ids_of es) id ≡ true
+  whole-set es at under keeps are id held =
+      ⊎_elim
+      (λ same. subst (λ (x : ConnId). is_listed (ids_of es) x ≡ true) (sym (same_id-is id (get_or es at d).id same)) (id-listed es at d under))
+      (λ other. are.whole id (sym (ap (λ (o : Option Conn). is_some o) (keeps.others id other)) ∙ held))
+      (cases_Bool (same_id id (get_or es at d).id))
+
   pub entries-set : (es : List Entry) (at : ℕ) → at < length es → Keeps (get_or es at d).id old new → KeepsLink (get_or es at d) f → AreEntries old es → AreEntries new (set es at f)
   entries-set es at under keeps link are = record {
-    valid = subst IsValid (sym (ap (λ (t : Table). t.schema) keeps.rest)) are.valid;
     once = ap are_once (ids-set es at d f (ap (λ (x : Entry). x.id) link.rest)) ∙ are.once;
     each = each-set es at under are.once keeps link are.each;
+    whole = λ id held. ap (λ (ids : List ConnId). is_listed ids id) (ids-set es at d f (ap (λ (x : Entry). x.id) link.rest)) ∙ whole-set es at under keeps are id held;
   }
 
   pub on-set : (number : ℕ) (g : Linked → Linked) (es : List Entry) (at : ℕ) → Found number es at → are_once (ids_of es) ≡ true → Keeps (get_or es at d).id old new → linked new.conns f ≡ g (linked old.conns (get_or es at d)) → all_linked new.conns (set es at f) ≡ on number g (all_linked old.conns es)
@@ -273,12 +278,35 @@ once-gone f (e ∷ es) zero once = once-tail e.id (ids_of es) once
 once-gone f (e ∷ es) (suc at) once =
     rw (unlisted-gone f es at e.id (once-head e.id (ids_of es) once)) (once-gone f es at (once-tail e.id (ids_of es) once))
 
-pub entries_gone : (old new : Table) (e f : Entry) (number : ℕ) (es : List Entry) (at : ℕ) → Found number es at → e ≡ get_or es at e → new ≡ record old { conns = new.conns } → KeepsOthers e.id old.conns new.conns → AreEntries old es → AreEntries new (remove (set es at f) at)
-entries_gone old new e f number es at is read rest others are =
+-- any other entry stays
+listed-gone : (f d : Entry) (es : List Entry) (at : ℕ) (id : ConnId) → at < length es → same_id id (get_or es at d).id ≡ false → is_listed (ids_of es) id ≡ true → is_listed (ids_of (remove (set es at f) at)) id ≡ true
+listed-gone f d [] at id under other listed = absurd (omega arith)
+listed-gone f d (e ∷ es) zero id under other listed =
+    let later : is_listed (ids_of (e ∷ es)) id ≡ is_listed (ids_of es) id = rw other refl in sym later ∙ listed
+listed-gone f d (e ∷ es) (suc at) id under other listed =
+    ⊎_elim
+    (λ same. rw same refl)
+    (λ apart_too.
+    let later : is_listed (ids_of (e ∷ es)) id ≡ is_listed (ids_of es) id = rw apart_too refl in
+    rw apart_too (listed-gone f d es at id (omega arith) other (sym later ∙ listed)))
+    (cases_Bool (same_id id e.id))
+
+-- a connection that is held is none that went, and was held before
+whole-gone : (old new : Table) (e f : Entry) (es : List Entry) (at : ℕ) → at < length es → e ≡ get_or es at e → KeepsOthers e.id old.conns new.conns → is_held new.conns e.id ≡ false → AreEntries old es → (id : ConnId) → is_held new.conns id ≡ true → is_listed (ids_of (remove (set es at f) at)) id ≡ true
+whole-gone old new e f es at under read others gone are id held =
+    ⊎_elim
+    (λ same. absurd (both_ways (is_held new.conns e.id) gone (subst (λ (x : ConnId). is_held new.conns x ≡ true) (same_id-is id e.id same) held)))
+    (λ other.
+    listed-gone f e es at id under (subst (λ (x : Entry). same_id id x.id ≡ false) read other)
+    (are.whole id (sym (ap (λ (o : Option Conn). is_some o) (others id other)) ∙ held)))
+    (cases_Bool (same_id id e.id))
+
+pub entries_gone : (old new : Table) (e f : Entry) (number : ℕ) (es : List Entry) (at : ℕ) → Found number es at → e ≡ get_or es at e → new ≡ record old { conns = new.conns } → KeepsOthers e.id old.conns new.conns → is_held new.conns e.id ≡ false → AreEntries old es → AreEntries new (remove (set es at f) at)
+entries_gone old new e f number es at is read rest others gone are =
     record {
-      valid = subst IsValid (sym (ap (λ (t : Table). t.schema) rest)) are.valid;
       once = once-gone f es at are.once;
       each = each-gone old new e f (reasons.Ended) rest es at (below number es at is) are.once (subst (λ (x : Entry). KeepsOthers x.id old.conns new.conns) read others) are.each;
+      whole = whole-gone old new e f es at (below number es at is) read others gone are;
     }
 
 pub gone_at : (old new : Table) (e f : Entry) (number : ℕ) (es : List Entry) (at : ℕ) (reason : Reason) → Found number es at → e ≡ get_or es at e → new ≡ record old { conns = new.conns } → KeepsOthers e.id old.conns new.conns → AreEntries old es → (passed (linked old.conns e)).conn ≡ conns.Closed reason → all_linked new.conns (remove (set es at f) at) ≡ on_sending number (all_linked old.conns es)
@@ -313,6 +341,20 @@ without-others id (c ∷ cs) other different =
     (λ kept. rw kept (ap (λ (o : Option Conn). if same_id c.0 other then Some c.1 else o) (without-others id cs other different)))
     (cases_Bool (same_id c.0 id))
 
+-- it is held no more
+without-own : (id : ConnId) (cs : List (ConnId × Conn)) → is_held (without id cs) id ≡ false
+without-own id [] = refl
+without-own id (c ∷ cs) =
+    ⊎_elim
+    (λ same. rw same (without-own id cs))
+    (λ kept. rw kept (rw kept (without-own id cs)))
+    (cases_Bool (same_id c.0 id))
+
+pub gone_own : (e f : Entry) (mid new : Table) → KeepsLink e f → new ≡ record mid { conns = without f.id mid.conns } → is_held new.conns e.id ≡ false
+gone_own e f mid new link is =
+    let id : f.id ≡ e.id = ap (λ (x : Entry). x.id) link.rest in
+    subst (λ (x : ConnId). is_held new.conns x ≡ false) id (ap (λ (t : Table). is_held t.conns f.id) is ∙ without-own f.id mid.conns)
+
 -- what contracts see of it
 pub view_on : (old new : Table) (olds news : List Linked) (f : List Linked → List Linked) (v : Connected) → new ≡ record old { conns = new.conns } → news ≡ f olds → record { schema = old.schema; secrets = old.secrets; conns = olds } ≡ v → record { schema = new.schema; secrets = new.secrets; conns = news } ≡ record v { conns = f v.conns }
 view_on old new olds news f v rest same is =
@@ -331,7 +373,6 @@ each-same t d f [] at under id ended each = absurd (omega arith)
 each-same t d f (e ∷ es) zero under id ended each = (
   record {
     held = ap (λ (x : ConnId). is_held t.conns x) id ∙ each.0.held;
-    fits = subst (λ (x : ConnId). ConnFits t.schema (conn_of t.conns x)) (sym id) each.0.fits;
     ended = ended each.0.ended;
   },
   each.1,
@@ -342,8 +383,8 @@ pub entries_same : (t : Table) (e f : Entry) (number : ℕ) (es : List Entry) (a
 entries_same t e f number es at is read id ended are =
     let id_at_is : f.id ≡ (get_or es at e).id = id ∙ ap (λ (x : Entry). x.id) read in
     record {
-      valid = are.valid;
       once = ap are_once (ids-set es at e f id_at_is) ∙ are.once;
+      whole = λ id held. ap (λ (ids : List ConnId). is_listed ids id) (ids-set es at e f id_at_is) ∙ are.whole id held;
       each = each-same t e f es at (below number es at is) id_at_is (subst (λ (x : Entry). x.has_ended ≡ x.link.peer_ended → f.has_ended ≡ f.link.peer_ended) read ended) are.each;
     }
 

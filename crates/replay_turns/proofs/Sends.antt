@@ -1,13 +1,11 @@
 -- Calls of a link until what waits is sent.
-use Rattle.std.proofs.Common.{◌≡◌, ℕ, zero, suc, ◌+◌, ◌-◌, ◌<◌, ◌≤◌, Bool, true, false, ◌&&◌, List, [], ◌∷◌, ◌++◌, length, take, drop, Option, Some, None, option_map, refl, sym, ap, subst, ◌∙◌, ⊎_elim, arith, length-append, length-drop, append_assoc}
-use Rattle.std.specs.Prelude.{if◌then◌else◌, nat_lt, min}
+use Rattle.std.proofs.Common.{◌≡◌, ℕ, ◌+◌, ◌-◌, ◌<◌, ◌≤◌, Bool, true, false, List, [], ◌++◌, length, take, drop, Option, Some, None, option_map, refl, sym, ap, ◌∙◌, arith, length-drop, append_assoc}
 use Rattle.std.proofs.Math.Seq.{take-add}
-use Rattle.std.proofs.lemmas.Bool.{cases_Bool, lt-ltb}
+use Rattle.std.proofs.lemmas.Bool.{lt-ltb}
 use Rattle.std.proofs.lemmas.List.{drop-drop, drop_all, append-nil}
 use Rattle.hs_outside.specs.MemoryLink.{room_for}
 use Rattle.line_pipeline.specs.declared.conns.Conn.{Conn}
 use Rattle.line_pipeline.specs.declared.conns.Conn.TheVariants as conns
-use Rattle.line_pipeline.specs.Output.{IsFront}
 use Rattle.line_pipeline.specs.Conn.{unsent_of, sent_off}
 use Rattle.replay_turns.specs.Linked.{Linked}
 use Rattle.replay_turns.specs.Receiving.{broken}

@@ -1,5 +1,5 @@
 -- What a batch makes of the connections of a turn is what answering them one after another does.
-use Rattle.std.proofs.Common.{◌≡◌, ℕ, zero, suc, Bool, true, false, ◌&&◌, ◌||◌, List, [], ◌∷◌, ◌++◌, length, map, Option, Some, None, is_some, option_map, refl, sym, ap, subst, ◌∙◌, ⊎_elim}
+use Rattle.std.proofs.Common.{◌≡◌, ℕ, Bool, true, false, ◌||◌, List, [], ◌∷◌, ◌++◌, length, map, Some, option_map, refl, sym, ap, subst, ◌∙◌, ⊎_elim}
 use Rattle.std.specs.Prelude.{if◌then◌else◌, nat_lt}
 use Rattle.std.proofs.lemmas.Bool.{cases_Bool, or_parts}
 use Rattle.request_types.specs.declared.connections.ConnId.{ConnId}
@@ -11,18 +11,20 @@ use Rattle.line_pipeline.specs.declared.conns.Conn.{Conn}
 use Rattle.line_pipeline.specs.declared.conns.Conn.TheVariants as conns
 use Rattle.line_pipeline.specs.Live.{Live, taken_lines, kinds_of, left_by, behind, item_of}
 use Rattle.line_pipeline.specs.Conn.{took, answered, place_used}
-use Rattle.line_pipeline.specs.Table.{same_id, is_listed, are_once, conn_at, is_held, changed, all_changed}
+use Rattle.request_types.specs.Ids.{same_id, is_listed, are_once}
+use Rattle.line_pipeline.specs.Table.{conn_at, all_changed}
 use Rattle.line_pipeline.specs.Gathered.{batch_of}
 use Rattle.line_pipeline.specs.Settled.{told, all_told, answered_by}
-use Rattle.line_pipeline.proofs.Ids.{same_id-refl, same_id-is, same_id-other, once-head, once-tail}
-use Rattle.line_pipeline.proofs.TableLemmas.{conn_at-changed}
+use Rattle.request_types.proofs.Ids.{same_id-refl, same_id-is, once-head, once-tail}
 use Rattle.table_rows.specs.Database.{Database}
 use Rattle.batch_answers.specs.Answers.{replies_to, after_all}
-use Rattle.batch_answers.specs.Batches.{parts_of, after_runs}
-use Rattle.replay_turns.specs.Entries.{conn_or_none, conn_of}
-use Rattle.replay_turns.specs.Replying.{asked, replied}
-use Rattle.replay_turns.proofs.Lookups.{conn_at-own}
-use Rattle.replay_turns.proofs.Runs.{conns_in, kinds_at, groups, with_group, items_are, heads, answered-heads, heads_unlisted, unlisted}
+use Rattle.batch_answers.specs.Batches.{parts_of}
+use Rattle.line_pipeline.specs.Gathered.{conn_of}
+use Rattle.line_pipeline.specs.Gathered.{asked}
+use Rattle.replay_turns.specs.Replying.{replied}
+use Rattle.request_types.specs.Batches.{conns_of}
+use Rattle.batch_answers.proofs.Parts.{answered-heads}
+use Rattle.line_pipeline.proofs.Runs.{kinds_at, groups, with_group, items_are, heads_unlisted, unlisted}
 
 -- ---- lookups
 
@@ -87,7 +89,7 @@ used_after text (conns.Closed reason) = refl
 -- what the batch makes of the connection of an id
 abbrev pub settled_conn : Schema → List (ConnId × Conn) → Database → List ConnId → ConnId → Conn → Conn
 settled_conn schema cs db ids x conn =
-    where_listed (conns_in (batch_of schema cs ids)) place_used x
+    where_listed (conns_of (batch_of schema cs ids)) place_used x
     (told (parts_of db (groups schema cs ids)) (x, where_listed ids (took schema) x conn))
 
 -- what answering one after another does
@@ -106,11 +108,11 @@ told_none (part ∷ parts) x conn none =
     let apart = or_parts (same_id x part.conn) (is_listed (answered_by parts) x) none in
     rw apart.0 (told_none parts x conn apart.1)
 
-listed_other : (id x : ConnId) (kinds : List ItemKind) (items : List Item) → same_id x id ≡ false → is_listed (conns_in (map (item_of id) kinds ++ items)) x ≡ is_listed (conns_in items) x
+listed_other : (id x : ConnId) (kinds : List ItemKind) (items : List Item) → same_id x id ≡ false → is_listed (conns_of (map (item_of id) kinds ++ items)) x ≡ is_listed (conns_of items) x
 listed_other id x [] items apart = refl
 listed_other id x (kind ∷ kinds) items apart = rw apart (listed_other id x kinds items apart)
 
-listed_own : (x : ConnId) (kind : ItemKind) (kinds : List ItemKind) (items : List Item) → is_listed (conns_in (map (item_of x) (kind ∷ kinds) ++ items)) x ≡ true
+listed_own : (x : ConnId) (kind : ItemKind) (kinds : List ItemKind) (items : List Item) → is_listed (conns_of (map (item_of x) (kind ∷ kinds) ++ items)) x ≡ true
 listed_own x kind kinds items = rw (same_id-refl x) refl
 
 module _ (schema : Schema) (cs : List (ConnId × Conn)) where
@@ -118,18 +120,18 @@ module _ (schema : Schema) (cs : List (ConnId × Conn)) where
   step_other : (db : Database) (id : ConnId) (ids : List ConnId) (x : ConnId) (conn : Conn) → same_id x id ≡ false → settled_conn schema cs db (id ∷ ids) x conn ≡ settled_conn schema cs (after_all db (kinds_at schema cs id)) ids x conn
   step_other db id ids x conn apart =
       let kinds = kinds_at schema cs id in
-      let listed : is_listed (conns_in (batch_of schema cs (id ∷ ids))) x ≡ is_listed (conns_in (batch_of schema cs ids)) x = ap (λ (items : List Item). is_listed (conns_in (items ++ batch_of schema cs ids)) x) (items_are schema cs id) ∙ listed_other id x kinds (batch_of schema cs ids) apart in
+      let listed : is_listed (conns_of (batch_of schema cs (id ∷ ids))) x ≡ is_listed (conns_of (batch_of schema cs ids)) x = ap (λ (items : List Item). is_listed (conns_of (items ++ batch_of schema cs ids)) x) (items_are schema cs id) ∙ listed_other id x kinds (batch_of schema cs ids) apart in
       let took_it : where_listed (id ∷ ids) (took schema) x conn ≡ where_listed ids (took schema) x conn = rw apart refl in
       let told_it = told_other db id x kinds (groups schema cs ids) (where_listed ids (took schema) x conn) apart in
       ap (λ (b : Bool). if b then place_used (told (parts_of db (groups schema cs (id ∷ ids))) (x, where_listed (id ∷ ids) (took schema) x conn)) else told (parts_of db (groups schema cs (id ∷ ids))) (x, where_listed (id ∷ ids) (took schema) x conn)) listed
-      ∙ ap (λ (c : Conn). where_listed (conns_in (batch_of schema cs ids)) place_used x (told (parts_of db (groups schema cs (id ∷ ids))) (x, c))) took_it
-      ∙ ap (λ (c : Conn). where_listed (conns_in (batch_of schema cs ids)) place_used x c) told_it
+      ∙ ap (λ (c : Conn). where_listed (conns_of (batch_of schema cs ids)) place_used x (told (parts_of db (groups schema cs (id ∷ ids))) (x, c))) took_it
+      ∙ ap (λ (c : Conn). where_listed (conns_of (batch_of schema cs ids)) place_used x c) told_it
 
   -- the one at hand, which asks for this
   own_by : (db : Database) (ids : List ConnId) (x : ConnId) (conn : Conn) (kinds : List ItemKind) → is_listed ids x ≡ false → conn ≡ conn_of cs x → kinds_at schema cs x ≡ kinds → settled_conn schema cs db (x ∷ ids) x conn ≡ replied schema db conn
   own_by db ids x conn [] none found is =
       let asks_nothing : asked schema conn ≡ [] = ap (asked schema) found ∙ is in
-      let listed : is_listed (conns_in (batch_of schema cs (x ∷ ids))) x ≡ false = ap (λ (items : List Item). is_listed (conns_in (items ++ batch_of schema cs ids)) x) (items_are schema cs x) ∙ ap (λ (ks : List ItemKind). is_listed (conns_in (map (item_of x) ks ++ batch_of schema cs ids)) x) is ∙ unlisted schema cs ids x none in
+      let listed : is_listed (conns_of (batch_of schema cs (x ∷ ids))) x ≡ false = ap (λ (items : List Item). is_listed (conns_of (items ++ batch_of schema cs ids)) x) (items_are schema cs x) ∙ ap (λ (ks : List ItemKind). is_listed (conns_of (map (item_of x) ks ++ batch_of schema cs ids)) x) is ∙ unlisted schema cs ids x none in
       let runs : groups schema cs (x ∷ ids) ≡ groups schema cs ids = ap (λ (ks : List ItemKind). with_group x ks (groups schema cs ids)) is in
       let took_it : where_listed (x ∷ ids) (took schema) x conn ≡ conn = rw (same_id-refl x) (took_nothing schema conn asks_nothing) in
       let no_part : is_listed (answered_by (parts_of db (groups schema cs ids))) x ≡ false = ap (λ (i : List ConnId). is_listed i x) (answered-heads db (groups schema cs ids)) ∙ heads_unlisted schema cs ids x none in
@@ -140,7 +142,7 @@ module _ (schema : Schema) (cs : List (ConnId × Conn)) where
       ∙ sym (rw asks_nothing refl)
   own_by db ids x conn (kind ∷ kinds) none found is =
       let asks : asked schema conn ≡ kind ∷ kinds = ap (asked schema) found ∙ is in
-      let listed : is_listed (conns_in (batch_of schema cs (x ∷ ids))) x ≡ true = ap (λ (items : List Item). is_listed (conns_in (items ++ batch_of schema cs ids)) x) (items_are schema cs x) ∙ ap (λ (ks : List ItemKind). is_listed (conns_in (map (item_of x) ks ++ batch_of schema cs ids)) x) is ∙ listed_own x kind kinds (batch_of schema cs ids) in
+      let listed : is_listed (conns_of (batch_of schema cs (x ∷ ids))) x ≡ true = ap (λ (items : List Item). is_listed (conns_of (items ++ batch_of schema cs ids)) x) (items_are schema cs x) ∙ ap (λ (ks : List ItemKind). is_listed (conns_of (map (item_of x) ks ++ batch_of schema cs ids)) x) is ∙ listed_own x kind kinds (batch_of schema cs ids) in
       let runs : groups schema cs (x ∷ ids) ≡ (x, kind ∷ kinds) ∷ groups schema cs ids = ap (λ (ks : List ItemKind). with_group x ks (groups schema cs ids)) is in
       let took_it : where_listed (x ∷ ids) (took schema) x conn ≡ took schema conn = rw (same_id-refl x) refl in
       let text = replies_to db (kind ∷ kinds) in

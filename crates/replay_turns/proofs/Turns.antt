@@ -1,26 +1,29 @@
 -- A batch answers the connections of the listed numbers one after another.
-use Rattle.std.proofs.Common.{◌≡◌, ℕ, Bool, true, false, eqb, not, ◌&&◌, ◌||◌, List, [], ◌∷◌, ◌++◌, Option, Some, None, is_some, option_map, refl, sym, ap, subst, ◌∙◌, ⊎_elim}
-use Rattle.std.specs.Prelude.{if◌then◌else◌, option_to_list, nat_eq}
+use Rattle.std.proofs.Common.{◌≡◌, ℕ, Bool, true, false, eqb, not, ◌&&◌, List, [], ◌∷◌, ◌++◌, Option, Some, None, is_some, option_map, refl, sym, ap, subst, ◌∙◌, ⊎_elim}
+use Rattle.std.specs.Prelude.{option_to_list, nat_eq}
 use Rattle.std.specs.List.{AllByRecursion, list_any}
-use Rattle.std.proofs.lemmas.Bool.{cases_Bool, or_parts, and_parts, both_ways, eqb-true, eq-eqb}
+use Rattle.std.proofs.lemmas.Bool.{cases_Bool, or_parts, both_ways, eqb-true, eq-eqb}
 use Rattle.request_types.specs.declared.connections.ConnId.{ConnId}
 use Rattle.row_types.specs.declared.tables.Schema.{Schema}
 use Rattle.row_types.specs.Valid.{are_distinct}
 use Rattle.request_types.specs.declared.batches.ItemKind.{ItemKind}
 use Rattle.line_pipeline.specs.declared.conns.Conn.{Conn}
-use Rattle.line_pipeline.specs.Table.{Table, same_id, is_listed, are_once, conn_at, is_held, changed}
-use Rattle.line_pipeline.proofs.Ids.{same_id-refl, same_id-is, same_id-other, once-head, once-tail}
+use Rattle.request_types.specs.Ids.{same_id, is_listed, are_once}
+use Rattle.line_pipeline.specs.Table.{Table, conn_at, is_held, changed}
+use Rattle.request_types.proofs.Ids.{same_id-refl, same_id-is, same_id-other, once-head, once-tail}
 use Rattle.line_pipeline.proofs.TableLemmas.{conn_at-changed}
 use Rattle.table_rows.specs.Database.{Database}
 use Rattle.batch_answers.specs.Answers.{after_all}
 use Rattle.batch_answers.specs.Batches.{after_runs}
 use Rattle.replay_turns.specs.declared.entries.Entry.{Entry}
 use Rattle.replay_turns.specs.Linked.{Linked, linked_at, on}
-use Rattle.replay_turns.specs.Replying.{asked, replied, with_replies, rows_after, all_replied}
-use Rattle.replay_turns.specs.Entries.{conn_or_none, conn_of, beside, linked, all_linked, id_at, ids_at, ids_of}
+use Rattle.line_pipeline.specs.Gathered.{asked}
+use Rattle.replay_turns.specs.Replying.{replied, with_replies, rows_after, all_replied}
+use Rattle.line_pipeline.specs.Gathered.{conn_or_none, conn_of}
+use Rattle.replay_turns.specs.Entries.{beside, linked, all_linked, id_at, ids_at, ids_of}
 use Rattle.replay_turns.proofs.Lookups.{conn_at-own, conn_of-own}
 use Rattle.replay_turns.proofs.Places.{Missing, linked_at-missing, on-missing, all_linked-other, apart}
-use Rattle.replay_turns.proofs.Runs.{kinds_at, groups, with_group}
+use Rattle.line_pipeline.proofs.Runs.{kinds_at, groups, with_group}
 use Rattle.replay_turns.proofs.Settling.{replied_conn}
 
 -- ---- ids of numbers

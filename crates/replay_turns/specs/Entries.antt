@@ -1,25 +1,13 @@
 -- How connections stand beside their links. No public clause cites this file.
-use Rattle.std.specs.Prelude.{◌≡◌, ℕ, ◌+◌, ◌==◌, Bool, true, false, List, [], ◌∷◌, ◌++◌, map, option_to_list, Option, Some, None, if◌then◌else◌, ⊤}
+use Rattle.std.specs.Prelude.{◌≡◌, ℕ, ◌+◌, ◌==◌, true, false, List, [], ◌∷◌, ◌++◌, map, option_to_list, Option, Some, None, if◌then◌else◌}
 use Rattle.std.specs.List.{AllByRecursion}
 use Rattle.request_types.specs.declared.connections.ConnId.{ConnId}
-use Rattle.row_types.specs.declared.tables.Schema.{Schema}
-use Rattle.row_types.specs.Valid.{IsValid}
-use Rattle.open_index.specs.Fits.{HandlesFit}
 use Rattle.line_pipeline.specs.declared.conns.Conn.{Conn}
-use Rattle.line_pipeline.specs.declared.conns.Conn.TheVariants as conns
-use Rattle.line_pipeline.specs.declared.reasons.Reason.TheVariants as reasons
-use Rattle.line_pipeline.specs.Table.{Table, same_id, are_once, conn_at, is_held}
+use Rattle.line_pipeline.specs.Gathered.{conn_of}
+use Rattle.request_types.specs.Ids.{same_id, is_listed, are_once}
+use Rattle.line_pipeline.specs.Table.{Table, conn_at, is_held}
 use Rattle.replay_turns.specs.declared.entries.Entry.{Entry}
 use Rattle.replay_turns.specs.Linked.{Linked}
-
--- a connection, of which there always is one
-abbrev pub conn_or_none : Option Conn → Conn
-conn_or_none None = conns.Closed reasons.Ended
-conn_or_none (Some conn) = conn
-
--- the connection of this id
-abbrev pub conn_of : List (ConnId × Conn) → ConnId → Conn
-conn_of cs id = conn_or_none (conn_at cs id)
 
 -- a connection beside this link
 abbrev pub beside : Conn → Entry → Linked
@@ -60,29 +48,22 @@ ids_at es (number ∷ numbers) = option_to_list (id_at number es) ++ ids_at es n
 abbrev pub ids_of : List Entry → List ConnId
 ids_of es = map (λ (e : Entry). e.id) es
 
--- the open ids of a connection fit the schema
-abbrev pub ConnFits : Schema → Conn → Type 0
-ConnFits schema (conns.Live l) = HandlesFit schema l.handles
-ConnFits schema (conns.Closed reason) = ⊤
-
--- an entry's connection is held, its open ids fit the schema, and what the entry says of the peer's end is so
+-- an entry's connection is held, and what the entry says of the peer's end is so
 pub record IsEntry (table : Table) (e : Entry) : Type 0 where
   pub held : is_held table.conns e.id ≡ true
-  pub fits : ConnFits table.schema (conn_of table.conns e.id)
   pub ended : e.has_ended ≡ e.link.peer_ended
 
--- no id is there twice, each is an entry, and the schema is valid
+-- no id is there twice, each is an entry, and every connection that is held has one
 pub record AreEntries (table : Table) (es : List Entry) : Type 0 where
-  pub valid : IsValid table.schema
   pub once : are_once (ids_of es) ≡ true
   pub each : AllByRecursion (IsEntry table) es
+  pub whole : (id : ConnId) → is_held table.conns id ≡ true → is_listed (ids_of es) id ≡ true
 
 -- only the connection of this id was changed, and what is kept of it holds still
 pub record Keeps (id : ConnId) (old new : Table) : Type 0 where
   pub rest : new ≡ record old { conns = new.conns }
   pub others : (other : ConnId) → same_id other id ≡ false → conn_at new.conns other ≡ conn_at old.conns other
   pub held : is_held old.conns id ≡ true → is_held new.conns id ≡ true
-  pub fits : ConnFits old.schema (conn_of old.conns id) → ConnFits old.schema (conn_of new.conns id)
 
 -- only the link was changed, and not whether its peer has ended
 pub record KeepsLink (old new : Entry) : Type 0 where

@@ -1,5 +1,5 @@
 -- The only table of the tests.
-use Rattle.std.specs.Prelude.{◌≡◌, ℕ, ◌<◌, true, false, codes, List, [], ◌∷◌, length}
+use Rattle.std.specs.Prelude.{◌≡◌, ◌<◌, true, false, codes, List, [], ◌∷◌, length}
 use Rattle.row_types.specs.declared.values.Value.TheVariants.{Null}
 use Rattle.row_types.specs.declared.columns.Column.{Column}
 use Rattle.row_types.specs.declared.columns.Kind.TheVariants as kinds

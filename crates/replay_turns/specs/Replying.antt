@@ -3,17 +3,11 @@ use Rattle.std.specs.Prelude.{ℕ, List, [], ◌∷◌, Option, Some, None}
 use Rattle.row_types.specs.declared.tables.Schema.{Schema}
 use Rattle.request_types.specs.declared.batches.ItemKind.{ItemKind}
 use Rattle.line_pipeline.specs.declared.conns.Conn.{Conn}
-use Rattle.line_pipeline.specs.declared.conns.Conn.TheVariants as conns
-use Rattle.line_pipeline.specs.Live.{kinds_of, taken_lines}
 use Rattle.line_pipeline.specs.Conn.{took, answered}
+use Rattle.line_pipeline.specs.Gathered.{asked}
 use Rattle.table_rows.specs.Database.{Database}
 use Rattle.batch_answers.specs.Answers.{replies_to, after_all}
 use Rattle.replay_turns.specs.Linked.{Linked, linked_at, on}
-
--- What the lines that are taken of it ask for.
-abbrev pub asked : Schema → Conn → List ItemKind
-asked schema (conns.Live l) = kinds_of schema l.port l.handles l.auth (taken_lines l)
-asked schema (conns.Closed reason) = []
 
 -- It without these lines, with the replies to them at the end of its output. One that gives no line stays as it is.
 abbrev pub replied : Schema → Database → Conn → Conn

@@ -1,6 +1,5 @@
 -- What is said beforehand of a peer or a link. No public clause cites this file.
-use Rattle.std.specs.Prelude.{◌≡◌, ℕ}
-use Rattle.hs_outside.specs.MemoryLink.{LinkInMemory}
+use Rattle.std.specs.Prelude.{◌≡◌}
 use Rattle.line_pipeline.specs.declared.conns.Conn.{Conn}
 use Rattle.replay_turns.specs.declared.entries.Entry.{Entry}
 use Rattle.replay_turns.specs.declared.sayings.Saying.{Saying}

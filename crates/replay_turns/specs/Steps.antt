@@ -1,5 +1,5 @@
 -- One call of a link. No public clause cites this file.
-use Rattle.std.specs.Prelude.{◌≡◌, ℕ, ◌<◌, ◌==◌, Bool, true, false, List, [], ◌∷◌, ◌++◌, length, take, drop, if◌then◌else◌}
+use Rattle.std.specs.Prelude.{◌≡◌, ℕ, ◌<◌, ◌==◌, Bool, true, false, List, [], ◌∷◌, ◌++◌, length, drop, if◌then◌else◌}
 use Rattle.line_pipeline.specs.Conn.{room_of, unsent_of, ended}
 use Rattle.replay_turns.specs.Linked.{Linked}
 use Rattle.replay_turns.specs.Receiving.{broken, heard}

@@ -5,7 +5,8 @@ ghost use Rattle.line_pipeline.specs.Conn.{closed};
 ghost use Rattle.line_pipeline.specs.declared.reasons.Reason.TheVariants as reasons;
 ghost use Rattle.line_pipeline.specs.Table.{is_held};
 ghost use Rattle.replay_turns.specs.Receiving.{received};
-ghost use Rattle.replay_turns.specs.Entries.{linked, conn_of, Keeps, KeepsLink};
+ghost use Rattle.line_pipeline.specs.Gathered.{conn_of};
+ghost use Rattle.replay_turns.specs.Entries.{linked, Keeps, KeepsLink};
 ghost use Rattle.replay_turns.specs.Steps.{pulled};
 
 use crate::entries::Entry;

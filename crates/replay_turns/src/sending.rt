@@ -2,7 +2,8 @@
 ghost use Rattle.std.specs.Prelude.{◌≡◌, ◌++◌, true, OnOk, IfOk};
 ghost use Rattle.line_pipeline.specs.Table.{is_held};
 ghost use Rattle.replay_turns.specs.Sending.{sends, bytes_of, passed};
-ghost use Rattle.replay_turns.specs.Entries.{linked, conn_of, Keeps, KeepsLink};
+ghost use Rattle.line_pipeline.specs.Gathered.{conn_of};
+ghost use Rattle.replay_turns.specs.Entries.{linked, Keeps, KeepsLink};
 ghost use Rattle.replay_turns.specs.Steps.{SendStep};
 
 use crate::entries::Entry;

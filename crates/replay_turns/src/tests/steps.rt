@@ -3,8 +3,8 @@ ghost use Rattle.std.specs.Prelude.{◌≡◌, true, nat_eq};
 ghost use Rattle.row_types.specs.Valid.{are_distinct};
 
 use crate::Session;
-use request_types::Port;
 use line_pipeline::Secrets;
+use request_types::Port;
 use row_types::{List, Schema};
 use std::alloc::{AllocError, Global};
 

@@ -1,9 +1,9 @@
-use Rattle.std.proofs.Common.{◌≡◌, ◌∙◌, ap, sym}
+use Rattle.std.proofs.Common.{◌∙◌, ap}
 use Rattle.line_pipeline.specs.declared.conns.Conn.{Conn}
 use Rattle.line_pipeline.specs.Conn.{finished}
 use Rattle.replay_turns.specs.Linked.{Linked}
 use Rattle.replay_turns.specs.Entries.{beside}
-use Rattle.replay_turns.proofs.Lookups.{keeps-changed, keeps-then, keeps_at, fits-finished, conn_of-own, held_at, one_changed}
+use Rattle.replay_turns.proofs.Lookups.{keeps-changed, keeps-then, keeps_at, conn_of-own, held_at, one_changed}
 use Rattle.replay_turns.proofs.sending.pass.Goals as goal
 
 pub returns-clause-keeps : goal.returns-clause-keeps
@@ -13,7 +13,7 @@ returns-clause-keeps c =
     let sent = c.in_ok-send.ensures in
     let finish = one_changed finished c.send.new.entry.id t c.finish.new.self c.finish.ensures in
     keeps-then id c.args.table.now t c.finish.new.self sent.keeps
-    (keeps_at c.args.entry.now c.send.new.entry t c.finish.new.self sent.entry (keeps-changed finished c.send.new.entry.id t c.finish.new.self fits-finished finish))
+    (keeps_at c.args.entry.now c.send.new.entry t c.finish.new.self sent.entry (keeps-changed finished c.send.new.entry.id t c.finish.new.self finish))
 
 pub returns-clause-passed : goal.returns-clause-passed
 returns-clause-passed c =

@@ -1,7 +1,8 @@
 use Rattle.std.proofs.Common.{◌≡◌, ◌++◌, length}
 use Rattle.line_pipeline.specs.Conn.{unsent_of}
 use Rattle.replay_turns.specs.Sending.{sends, bytes_of}
-use Rattle.replay_turns.specs.Entries.{conn_of, linked, Keeps, KeepsLink}
+use Rattle.line_pipeline.specs.Gathered.{conn_of}
+use Rattle.replay_turns.specs.Entries.{linked, Keeps, KeepsLink}
 use Rattle.replay_turns.proofs.sending.send.Given as goal
 
 abbrev pub invariant-loop : goal.invariant-loop

@@ -1,10 +1,9 @@
-use Rattle.std.proofs.Common.{refl, arith}
-use Rattle.replay_turns.proofs.Lookups.{keeps-changed, fits-sent_off, front-is}
+use Rattle.replay_turns.proofs.Lookups.{keeps-changed, front-is}
 use Rattle.replay_turns.proofs.Calls.{step-taken, took-goes}
 use Rattle.replay_turns.proofs.sending.send_once.Goals as goal
 
 pub returns-in-Took-clause-keeps : goal.returns-in-Took-clause-keeps
-returns-in-Took-clause-keeps c = keeps-changed _ c.args.entry.now.id c.args.table.now c.sent.new.self (fits-sent_off _) c.sent.ensures
+returns-in-Took-clause-keeps c = keeps-changed _ c.args.entry.now.id c.args.table.now c.sent.new.self c.sent.ensures
 
 pub returns-in-Took-clause-step : goal.returns-in-Took-clause-step
 returns-in-Took-clause-step c =

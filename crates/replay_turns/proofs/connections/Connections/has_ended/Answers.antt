@@ -1,10 +1,8 @@
-use Rattle.std.proofs.Common.{◌≡◌, ◌∙◌, List, Option, length, sym, ap, arith, option_map}
-use Rattle.request_types.specs.declared.ports.Port.{Port}
-use Rattle.replay_turns.specs.declared.entries.Entry.{Entry}
-use Rattle.replay_turns.specs.Linked.{Linked, linked_at, has_ended}
+use Rattle.std.proofs.Common.{◌∙◌, length, sym, ap, arith}
+use Rattle.replay_turns.specs.Linked.{has_ended}
 use Rattle.replay_turns.specs.Connected.{Connected}
-use Rattle.replay_turns.specs.Entries.{place_from, linked, all_linked}
-use Rattle.replay_turns.proofs.Places.{found, missing, below, linked_at-found, linked_at-missing, has_ended-missing, ended-in}
+use Rattle.replay_turns.specs.Entries.{place_from}
+use Rattle.replay_turns.proofs.Places.{found, missing, below, has_ended-missing, ended-in}
 use Rattle.replay_turns.proofs.connections.Connections.has_ended.Goals as goal
 
 pub index-requires : goal.index-requires

@@ -1,6 +1,5 @@
-use Rattle.std.proofs.Common.{◌≡◌, ◌∙◌, ◌++◌, ◌∷◌, [], false, List, refl, sym, ap, subst, rules}
+use Rattle.std.proofs.Common.{◌≡◌, ◌∙◌, ◌++◌, ◌∷◌, [], false, List, sym, ap, subst}
 use Rattle.hs_outside.specs.MemoryLink.{LinkInMemory}
-use Rattle.row_types.specs.declared.tables.Schema.{Schema}
 use Rattle.line_pipeline.specs.declared.conns.Conn.{Conn}
 use Rattle.line_pipeline.specs.declared.conns.Conn.TheVariants as conns
 use Rattle.line_pipeline.specs.Live.{fresh}
@@ -9,13 +8,9 @@ use Rattle.line_pipeline.specs.Table.{Table}
 use Rattle.replay_turns.specs.declared.entries.Entry.{Entry}
 use Rattle.replay_turns.specs.Linked.{Linked, opened}
 use Rattle.replay_turns.specs.Connected.{Connected}
-use Rattle.replay_turns.specs.Entries.{all_linked, beside, ConnFits, AreEntries}
+use Rattle.replay_turns.specs.Entries.{all_linked, beside, AreEntries}
 use Rattle.replay_turns.proofs.Joined.{entries_joined, linked_joined}
 use Rattle.replay_turns.proofs.connections.Connections.open.Goals as goal
-
--- no id is open yet
-fresh_fits : (secret : _) (port : _) (schema : Schema) → ConnFits schema (conns.Live (fresh secret port))
-fresh_fits secret port schema = search rules
 
 pub invariant_of-self-2 : goal.invariant_of-self-2
 invariant_of-self-2 c =
@@ -26,7 +21,7 @@ invariant_of-self-2 c =
     let items = c.push_reserved.ensures.items ∙ ap (λ (xs : List Entry). xs ++ f ∷ []) c.in_ok-reserve.ensures.items in
     let schema = ap (λ (x : Table). x.schema) c.in-Ok.ensures.rest in
     let ended = sym (ap (λ (l : LinkInMemory). l.peer_ended) c.new-link.ensures) in
-    (subst (λ (xs : List Entry). AreEntries new xs) (sym items) (entries_joined t new schema f _ c.in-Ok.ensures.joins c.in-Ok.ensures.unheld es c.self.invariant.0 (fresh_fits (secret_of t.secrets c.args.port) c.args.port) ended), c.self.invariant.1)
+    (subst (λ (xs : List Entry). AreEntries new xs) (sym items) (entries_joined t new schema f _ c.in-Ok.ensures.joins c.in-Ok.ensures.unheld es c.self.invariant.0 ended), c.self.invariant.1)
 
 pub returns-clause-opened : goal.returns-clause-opened
 returns-clause-opened c =

@@ -1,9 +1,10 @@
-use Rattle.std.proofs.Common.{◌≡◌, ◌∙◌, List, length, set, refl, sym, ap, arith, Result, Ok, Err, OnOk, OnErr, subst}
+use Rattle.std.proofs.Common.{◌≡◌, ◌∙◌, length, set, refl, sym, ap, arith, Result, Ok, Err, OnOk, OnErr}
 use Rattle.hs_outside.specs.MemoryLink.{LinkInMemory}
 use Rattle.line_pipeline.proofs.GatherLemmas.{on_ok}
 use Rattle.replay_turns.specs.declared.entries.Entry.{Entry}
-use Rattle.replay_turns.specs.Linked.{Linked, on, peer_sent}
-use Rattle.replay_turns.specs.Entries.{place_from, conn_of, beside, all_linked}
+use Rattle.replay_turns.specs.Linked.{on, peer_sent}
+use Rattle.line_pipeline.specs.Gathered.{conn_of}
+use Rattle.replay_turns.specs.Entries.{place_from, beside, all_linked}
 use Rattle.replay_turns.proofs.Places.{found, missing, below, on-missing, entries_same, on_same, view_on}
 use Rattle.replay_turns.proofs.connections.Connections.peer_bytes.Goals as goal
 

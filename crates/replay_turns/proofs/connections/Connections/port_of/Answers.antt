@@ -1,10 +1,10 @@
-use Rattle.std.proofs.Common.{◌≡◌, ◌∙◌, List, Option, Some, length, sym, ap, arith, option_map}
+use Rattle.std.proofs.Common.{◌∙◌, Option, Some, length, sym, ap, arith, option_map}
 use Rattle.request_types.specs.declared.ports.Port.{Port}
 use Rattle.replay_turns.specs.declared.entries.Entry.{Entry}
-use Rattle.replay_turns.specs.Linked.{Linked, linked_at, has_ended}
+use Rattle.replay_turns.specs.Linked.{Linked, linked_at}
 use Rattle.replay_turns.specs.Connected.{Connected}
-use Rattle.replay_turns.specs.Entries.{place_from, linked, all_linked}
-use Rattle.replay_turns.proofs.Places.{found, missing, below, linked_at-found, linked_at-missing, has_ended-missing, ended-in}
+use Rattle.replay_turns.specs.Entries.{place_from}
+use Rattle.replay_turns.proofs.Places.{found, missing, below, linked_at-found, linked_at-missing}
 use Rattle.replay_turns.proofs.connections.Connections.port_of.Goals as goal
 
 pub index-requires : goal.index-requires

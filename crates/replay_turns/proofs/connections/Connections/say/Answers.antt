@@ -1,8 +1,9 @@
-use Rattle.std.proofs.Common.{◌≡◌, ◌∙◌, List, length, set, refl, sym, ap, arith}
+use Rattle.std.proofs.Common.{◌∙◌, length, set, refl, sym, ap, arith}
 use Rattle.request_types.specs.declared.connections.ConnId.{ConnId}
-use Rattle.replay_turns.specs.Linked.{Linked, on}
+use Rattle.replay_turns.specs.Linked.{on}
 use Rattle.replay_turns.specs.Sayings.{said}
-use Rattle.replay_turns.specs.Entries.{place_from, conn_of, beside, all_linked}
+use Rattle.line_pipeline.specs.Gathered.{conn_of}
+use Rattle.replay_turns.specs.Entries.{place_from, beside, all_linked}
 use Rattle.replay_turns.proofs.Places.{found, missing, below, on-missing, entries_same, on_same, view_on}
 use Rattle.replay_turns.proofs.connections.Connections.say.Goals as goal
 

@@ -1,18 +1,17 @@
-use Rattle.std.proofs.Common.{◌≡◌, ◌∙◌, ◌++◌, ℕ, List, Option, Some, length, drop, set, sym, ap, refl, subst, arith}
-use Rattle.std.specs.List.{remove}
+use Rattle.std.proofs.Common.{◌∙◌, ◌++◌, ℕ, List, Option, Some, length, set, sym, ap, refl, subst, arith}
 use Rattle.std.specs.Prelude.{codes}
 use Rattle.std.proofs.lemmas.List.{append-nil}
 use Rattle.line_pipeline.proofs.TableLemmas.{kept}
-use Rattle.line_pipeline.specs.declared.conns.Conn.{Conn}
 use Rattle.line_pipeline.specs.Conn.{state_of}
 use Rattle.replay_turns.specs.declared.entries.Entry.{Entry}
 use Rattle.replay_turns.specs.Linked.{Linked, linked_at}
-use Rattle.replay_turns.specs.Sending.{passed, bytes_of, on_sending}
-use Rattle.replay_turns.specs.Told.{told, reason_word, line_of}
+use Rattle.replay_turns.specs.Sending.{bytes_of, on_sending}
+use Rattle.replay_turns.specs.Told.{told, line_of}
 use Rattle.replay_turns.specs.Connected.{Connected}
-use Rattle.replay_turns.specs.Entries.{place_from, linked, all_linked, conn_of, AreEntries}
+use Rattle.line_pipeline.specs.Gathered.{conn_of}
+use Rattle.replay_turns.specs.Entries.{place_from, linked, all_linked, AreEntries}
 use Rattle.replay_turns.proofs.Lookups.{held_at, found-is}
-use Rattle.replay_turns.proofs.Places.{found, missing, below, found-number, linked_at-found, linked_at-missing, on_sending-missing, entries_at, held_in, view_on, gone_others, entries_gone, gone_at, stays_at, closed-is, live-is}
+use Rattle.replay_turns.proofs.Places.{found, missing, below, found-number, linked_at-found, linked_at-missing, on_sending-missing, entries_at, held_in, view_on, gone_others, gone_own, entries_gone, gone_at, stays_at, closed-is, live-is}
 use Rattle.replay_turns.proofs.ToldLines.{bytes_since, told-closed, told-live}
 use Rattle.replay_turns.proofs.connections.Connections.send.Goals as goal
 
@@ -78,7 +77,7 @@ invariant_of-self-in-Closed c =
     let place = found c.args.number es c.in-Some.at (ap (place_from 0 c.args.number) (sym c.deref.ensures.value) ∙ sym c.in-Some.ensures) in
     let rest = kept t mid new _ c.pass.ensures.keeps.rest c.remove.ensures in
     let others = gone_others e f t mid new c.pass.ensures.entry c.pass.ensures.keeps c.remove.ensures in (
-      subst (λ (xs : List Entry). AreEntries new xs) (sym c.remove-in-Closed.ensures.items) (entries_gone t new e f c.args.number es c.in-Some.at place c.index_mut-entry.ensures.value rest others c.self.invariant.0),
+      subst (λ (xs : List Entry). AreEntries new xs) (sym c.remove-in-Closed.ensures.items) (entries_gone t new e f c.args.number es c.in-Some.at place c.index_mut-entry.ensures.value rest others (gone_own e f mid new c.pass.ensures.entry c.remove.ensures) c.self.invariant.0),
       c.self.invariant.1,
     )
 

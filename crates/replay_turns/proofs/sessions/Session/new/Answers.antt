@@ -1,4 +1,4 @@
-use Rattle.std.proofs.Common.{◌≡◌, ◌∙◌, [], ap}
+use Rattle.std.proofs.Common.{◌∙◌, [], ap}
 use Rattle.row_types.specs.declared.tables.Schema.{Schema}
 use Rattle.table_rows.specs.Database.{Database, database_of}
 use Rattle.replay_turns.specs.Connected.{Connected}
