@@ -3,3 +3,4 @@ pub mod Rests
 pub mod Runs
 pub mod Words
 pub mod Says
+pub mod Statuses

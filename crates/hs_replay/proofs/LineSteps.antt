@@ -1,5 +1,5 @@
 -- What one line of a script does to what is held of it, and what several parts do, one after another.
-use Rattle.std.proofs.Common.{◌≡◌, ◌∙◌, ℕ, ◌+◌, Option, IfSome, Result, Ok, Err, List, [], ◌∷◌, ◌++◌, Some, None, refl, sym, ap, subst, append_assoc}
+use Rattle.std.proofs.Common.{◌≡◌, ◌∙◌, ℕ, ◌+◌, Option, IfSome, Ok, Err, List, [], ◌∷◌, ◌++◌, Some, None, refl, sym, ap, subst, append_assoc}
 use Rattle.std.proofs.lemmas.List.{append-nil}
 use Rattle.hs_line.specs.Lines.{lines_of, rest_of}
 use Rattle.hs_line.proofs.LinesLemmas.{lines_of-append, rest_of-append}
@@ -9,13 +9,12 @@ use Rattle.replay_script.specs.declared.events.Event.{Event}
 use Rattle.replay_script.specs.Events.{event_of}
 use Rattle.hs_replay.specs.declared.ends.Flaw.{Flaw}
 use Rattle.hs_replay.specs.declared.ends.Flaw.TheVariants.{NoEvent}
-use Rattle.hs_replay.specs.declared.ends.BadLine.{BadLine}
 use Rattle.hs_replay.specs.declared.ends.Outcome.{Outcome}
 use Rattle.hs_replay.specs.declared.ends.Outcome.TheVariants as outcomes
 use Rattle.hs_replay.specs.declared.ends.Step.{Step}
 use Rattle.hs_replay.specs.declared.ends.Step.TheVariants as steps
-use Rattle.hs_replay.specs.Script.{State, event_in, flaw_of, unless, placed, after, printed, text_from, bad_line_from, bad_line}
-use Rattle.hs_replay.specs.Running.{Held, to_print, bad_in, Leads, IsBad, StepDoes, EventDoes, step_of}
+use Rattle.hs_replay.specs.Script.{State, event_in, flaw_of, placed, after, printed, text_from, bad_line_from, bad_line}
+use Rattle.hs_replay.specs.Running.{Held, to_print, bad_by, rest_by, Leads, IsBad, StepDoes, EventDoes, step_of}
 
 -- ---- the first line
 
@@ -41,16 +40,17 @@ line_text : (h : Held) (line left rest : List ℕ) (event : Event) → Takes h.b
     → to_print h rest ≡ printed event h.state ++ to_print (with_line h left (after event h.state)) rest
 line_text h line left rest event takes e = rw (lines_on h.bytes line left rest takes, e) refl
 
-line_bad : (h : Held) (line left rest : List ℕ) (event : Event) → Takes h.bytes line left → event_in h.state line ≡ Ok event
-    → bad_in h rest ≡ bad_in (with_line h left (after event h.state)) rest
-line_bad h line left rest event takes e = rw (lines_on h.bytes line left rest takes, rest_on h.bytes line left rest takes, e) refl
+line_bad : (h : Held) (line left rest end : List ℕ) (event : Event) → Takes h.bytes line left → event_in h.state line ≡ Ok event
+    → bad_by h rest end ≡ bad_by (with_line h left (after event h.state)) rest end
+line_bad h line left rest end event takes e = rw (lines_on h.bytes line left rest takes, e) refl
 
 leads_line : (h : Held) (line left : List ℕ) (event : Event) (o p : Taker) → Takes h.bytes line left → event_in h.state line ≡ Ok event
     → Grew o p (printed event h.state) → p.faults ≡ o.faults → Leads h (with_line h left (after event h.state)) o p []
 leads_line h line left event o p takes e grew same = record {
   text = printed event h.state;
   prints = λ rest. line_text h line left rest event takes e;
-  bad = λ rest. line_bad h line left rest event takes e;
+  behind = λ rest. rest_on h.bytes line left rest takes;
+  bad = λ rest end. line_bad h line left rest end event takes e;
   grew = grew;
   unfailed = same;
 }
@@ -73,7 +73,7 @@ pub line_refused : (h : Held) (line left : List ℕ) (o p : Taker) (flaw : Flaw)
 line_refused h line left o p flaw takes e same = record {
   text = [];
   prints = λ rest. rw (lines_on h.bytes line left rest takes, e) refl;
-  bad = λ rest. rw (lines_on h.bytes line left rest takes, e) refl;
+  bad = λ rest beyond. rw (lines_on h.bytes line left rest takes, e) refl;
   grew = grew_none o p (ap (λ (t : Taker). t.taken) same);
   unfailed = ap (λ (t : Taker). t.faults) same;
 }
@@ -94,14 +94,15 @@ line_does outcomes.Memory h line left event state o p takes e does =
 -- ---- several parts
 
 pub leads_none : (h : Held) (o : Taker) → Leads h h o o []
-leads_none h o = record { text = []; prints = λ rest. refl; bad = λ rest. refl; grew = grew_none o o refl; unfailed = refl }
+leads_none h o = record { text = []; prints = λ rest. refl; behind = λ rest. refl; bad = λ rest end. refl; grew = grew_none o o refl; unfailed = refl }
 
 -- a piece that is held and not looked at yet
 pub leads_pushed : (h : Held) (piece : List ℕ) (o : Taker) → Leads h (record h { bytes = h.bytes ++ piece }) o o piece
 leads_pushed h piece o = record {
   text = [];
   prints = λ rest. ap (λ (bytes : List ℕ). text_from h.state (lines_of bytes)) (sym (append_assoc h.bytes piece rest));
-  bad = λ rest. ap (λ (bytes : List ℕ). bad_line_from h.lines h.state (lines_of bytes) (rest_of bytes)) (sym (append_assoc h.bytes piece rest));
+  behind = λ rest. ap rest_of (sym (append_assoc h.bytes piece rest));
+  bad = λ rest end. ap (λ (bytes : List ℕ). bad_line_from h.lines h.state (lines_of bytes) end) (sym (append_assoc h.bytes piece rest));
   grew = grew_none o o refl;
   unfailed = refl;
 }
@@ -113,14 +114,19 @@ steps_two steps.Done h m n o p q xs ys a b = record {
   prints = λ rest.
       ap (to_print h) (append_assoc xs ys rest) ∙ a.prints (ys ++ rest) ∙ ap (λ (t : List ℕ). a.text ++ t) (b.prints rest)
       ∙ sym (append_assoc a.text b.text (to_print n rest));
-  bad = λ rest. ap (bad_in h) (append_assoc xs ys rest) ∙ a.bad (ys ++ rest) ∙ b.bad rest;
+  behind = λ rest. ap (rest_by h) (append_assoc xs ys rest) ∙ a.behind (ys ++ rest) ∙ b.behind rest;
+  bad = λ rest end. ap (λ (bytes : List ℕ). bad_by h bytes end) (append_assoc xs ys rest) ∙ a.bad (ys ++ rest) end ∙ b.bad rest end;
   grew = grew_two o p q a.text b.text a.grew b.grew;
   unfailed = b.unfailed ∙ a.unfailed;
 }
 steps_two (steps.Bad line) h m n o p q xs ys a b = record {
   text = a.text ++ b.text;
   prints = λ rest. ap (to_print h) (append_assoc xs ys rest) ∙ a.prints (ys ++ rest) ∙ ap (λ (t : List ℕ). a.text ++ t) (b.prints rest);
-  bad = λ rest. ap (bad_in h) (append_assoc xs ys rest) ∙ a.bad (ys ++ rest) ∙ b.bad rest;
+  bad = λ rest beyond.
+      ap (λ (bytes : List ℕ). bad_by h bytes (rest_by h bytes ++ beyond)) (append_assoc xs ys rest)
+      ∙ a.bad (ys ++ rest) (rest_by h (xs ++ (ys ++ rest)) ++ beyond)
+      ∙ ap (λ (end : List ℕ). bad_by m (ys ++ rest) (end ++ beyond)) (a.behind (ys ++ rest))
+      ∙ b.bad rest beyond;
   grew = grew_two o p q a.text b.text a.grew b.grew;
   unfailed = b.unfailed ∙ a.unfailed;
 }

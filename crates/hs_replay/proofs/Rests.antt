@@ -2,7 +2,6 @@
 use Rattle.std.proofs.Common.{◌≡◌, ◌∙◌, ℕ, ◌+◌, ◌<◌, ◌≤◌, true, false, leb, List, [], ◌∷◌, ◌++◌, length, Some, None, Err, refl, sym, ap, subst, arith, append_assoc, length-append, inl, inr}
 use Rattle.std.proofs.lemmas.Bool.{cases_Bool, lt-leb, ltb-false, ltb-true}
 use Rattle.std.proofs.lemmas.List.{append-nil}
-use Rattle.std.specs.Prelude.{◌||◌, not}
 use Rattle.hs_line.specs.Lines.{IsLine, has_lf, lines_of, is_too_long}
 use Rattle.hs_line.specs.declared.limits.TheConstants.{MAX_LINE_LEN}
 use Rattle.hs_line.proofs.WholeLines.{too_long-none}
@@ -15,7 +14,7 @@ use Rattle.replay_script.specs.Events.{event_of}
 use Rattle.hs_replay.specs.declared.ends.Flaw.TheVariants.{NoEvent}
 use Rattle.hs_replay.specs.declared.ends.BadLine.{BadLine}
 use Rattle.hs_replay.specs.Script.{State, event_in, placed, bad_line, bad_line_from}
-use Rattle.hs_replay.specs.Running.{Held, to_print, bad_in, Leads, IsBad, StepDoes, IsLongRest, RestIs}
+use Rattle.hs_replay.specs.Running.{Held, to_print, bad_by, rest_by, Leads, IsBad, StepDoes, IsLongRest, RestIs}
 use Rattle.hs_replay.proofs.LineSteps.{after_push}
 
 -- ---- nothing more comes
@@ -23,11 +22,11 @@ use Rattle.hs_replay.proofs.LineSteps.{after_push}
 pub none_printed : (h : Held) → IsLine h.bytes → to_print h [] ≡ []
 none_printed h line = rw (append-nil h.bytes, lines_of-none h.bytes line) refl
 
-pub bad_at_end : (h : Held) → IsLine h.bytes → bad_in h [] ≡ bad_line_from h.lines h.state [] h.bytes
-bad_at_end h line = rw (append-nil h.bytes, lines_of-none h.bytes line, rest_of-none h.bytes line) refl
+pub bad_at_end : (h : Held) (end : List ℕ) → IsLine h.bytes → bad_by h [] end ≡ bad_line_from h.lines h.state [] end
+bad_at_end h end line = rw (append-nil h.bytes, lines_of-none h.bytes line) refl
 
-bad_with_some : (n b : ℕ) (bytes : List ℕ) (s : State) → bad_line_from n s [] (b ∷ bytes) ≡ Some (bad_line (n + 1) NoEvent)
-bad_with_some n b bytes s = refl
+pub rest_at_end : (h : Held) → IsLine h.bytes → rest_by h [] ≡ h.bytes
+rest_at_end h line = rw (append-nil h.bytes, rest_of-none h.bytes line) refl
 
 pub bad_with_bytes : (n : ℕ) (bytes : List ℕ) (s : State) → 0 < length bytes → bad_line_from n s [] bytes ≡ Some (bad_line (n + 1) NoEvent)
 bad_with_bytes n [] s lt = absurd (omega arith)
@@ -44,14 +43,16 @@ long_line s line lt = ap (placed s) (long_is_none line lt)
 -- what a line that is too long comes to, whatever follows
 pub record ComesToNothing (h : Held) (rest : List ℕ) : Type 0 where
   pub text : to_print h rest ≡ []
-  pub bad : bad_in h rest ≡ Some (bad_line (h.lines + 1) NoEvent)
+  pub bad : (beyond : List ℕ) → bad_by h rest (rest_by h rest ++ beyond) ≡ Some (bad_line (h.lines + 1) NoEvent)
 
 unended : (h : Held) (rest : List ℕ) → IsLine h.bytes → IsLine rest → IsLongRest h → ComesToNothing h rest
 unended h rest line more long =
     let all : IsLine (h.bytes ++ rest) = has_lf-append h.bytes rest ∙ rw (line, more) refl in
     record {
       text = rw (lines_of-none (h.bytes ++ rest) all) refl;
-      bad = rw (lines_of-none (h.bytes ++ rest) all, rest_of-none (h.bytes ++ rest) all) (bad_with_bytes h.lines (h.bytes ++ rest) h.state (omega (arith, length-append h.bytes rest)));
+      bad = λ beyond.
+          rw (lines_of-none (h.bytes ++ rest) all, rest_of-none (h.bytes ++ rest) all)
+          (bad_with_bytes h.lines ((h.bytes ++ rest) ++ beyond) h.state (omega (arith, length-append h.bytes rest, length-append (h.bytes ++ rest) beyond)));
     }
 
 ended : (h : Held) (rest : List ℕ) → IsLine h.bytes → StartsWithLine rest → IsLongRest h → ComesToNothing h rest
@@ -61,7 +62,7 @@ ended h rest line starts long =
     let parts : h.bytes ++ rest ≡ first ++ 10 ∷ starts.more = ap (λ (r : List ℕ). h.bytes ++ r) starts.parts ∙ sym (append_assoc h.bytes starts.line (10 ∷ starts.more)) in
     let lines : lines_of (h.bytes ++ rest) ≡ first ∷ lines_of starts.more = ap lines_of parts ∙ lines_of-line first starts.more all in
     let refused : event_in h.state first ≡ Err NoEvent = long_line h.state first (omega (arith, length-append h.bytes starts.line)) in
-    record { text = rw (lines, refused) refl; bad = rw (lines, refused) refl }
+    record { text = rw (lines, refused) refl; bad = λ beyond. rw (lines, refused) refl }
 
 pub too_long : (h : Held) (rest : List ℕ) → IsLine h.bytes → IsLongRest h → ComesToNothing h rest
 too_long h rest line long =
@@ -75,7 +76,9 @@ pub long_rest : (h n : Held) (o p : Taker) (bytes : List ℕ) → Leads h n o p 
 long_rest h n o p bytes a line long = record {
   text = a.text;
   prints = λ rest. a.prints rest ∙ ap (λ (t : List ℕ). a.text ++ t) ((too_long n rest line long).text) ∙ append-nil a.text;
-  bad = λ rest. a.bad rest ∙ (too_long n rest line long).bad;
+  bad = λ rest beyond.
+      a.bad rest (rest_by h (bytes ++ rest) ++ beyond) ∙ ap (λ (end : List ℕ). bad_by n rest (end ++ beyond)) (a.behind rest)
+      ∙ (too_long n rest line long).bad beyond;
   grew = a.grew;
   unfailed = a.unfailed;
 }
@@ -87,11 +90,6 @@ pub is_long : (bytes : List ℕ) → IsLine bytes → is_too_long bytes ≡ true
 is_long bytes line long = ltb-true MAX_LINE_LEN (length bytes) (sym (too_long-none MAX_LINE_LEN bytes line) ∙ long)
 
 -- ---- the same, as the code looks at what is held
-
-pub ends_with_bytes : (h self : Held) (number : ℕ) → h ≡ self → IsLine h.bytes → 0 < length h.bytes → number ≡ h.lines + 1 → bad_in self [] ≡ Some (bad_line number NoEvent)
-ends_with_bytes h self number same line some is =
-    subst (λ (s : Held). bad_in s [] ≡ Some (bad_line number NoEvent)) same
-    (bad_at_end h line ∙ bad_with_bytes h.lines h.bytes h.state some ∙ ap (λ (k : ℕ). Some (bad_line k NoEvent)) (sym is))
 
 piece_and_rest : (step : Step) (h new : Held) (piece : List ℕ) (o q : Taker) → Leads h new o q piece → IsLine new.bytes → RestIs step new → StepDoes step h new o q piece
 piece_and_rest steps.Done h new piece o q leads line rest = leads

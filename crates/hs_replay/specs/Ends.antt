@@ -2,7 +2,7 @@
 use Rattle.std.specs.Prelude.{◌≡◌, ◌≢◌, ℕ, Bool, true, List, [], ◌∷◌, ◌++◌, Option, Some, None, Result, codes, decimal, ◌==◌, ◌||◌}
 use Rattle.hs_outside.specs.Streams.{Giver, Taker, Gave, IsAll, Grew, GrewPart, Rose, SendDoes}
 use Rattle.hs_outside.specs.declared.sinks.Failed.{Failed}
-use Rattle.hs_replay.specs.Script.{script_text, bad_line_of}
+use Rattle.hs_replay.specs.Script.{script_text, bad_line_of, bad_whole_line_of}
 use Rattle.hs_schema.specs.declared.faults.SchemaRule.{SchemaRule}
 use Rattle.hs_schema.specs.declared.faults.SchemaRule.TheVariants as rules
 use Rattle.hs_replay.specs.declared.ends.Flaw.{Flaw}
@@ -34,21 +34,20 @@ pub record HasBadLine (line : BadLine) (script ended : Giver) (before now : Take
   pub none_unread : ended.faults ≡ script.faults
   pub none_unwritten : now.faults ≡ before.faults
 
--- A read failed after these bytes, and the text of the events whose lines were read whole was printed.
+-- A read failed after these bytes, of which no whole line is bad, and the text of these lines was printed.
 pub record IsUnread (script ended : Giver) (before now : Taker) : Type 0 where
   pub bytes : List ℕ
   pub gave : Gave script ended bytes
+  pub none_bad : bad_whole_line_of bytes ≡ None
   pub rose : Rose script.faults ended.faults
   pub text : Grew before now (script_text bytes)
   pub none_unwritten : now.faults ≡ before.faults
 
--- A front of the script's text was printed.
+-- A front of the text of the lines that were read whole was printed.
 pub record IsCut (script ended : Giver) (before now : Taker) : Type 0 where
-  pub bytes : List ℕ
-  pub all : IsAll script bytes
   pub given : List ℕ
   pub gave : Gave script ended given
-  pub text : GrewPart before now (script_text bytes)
+  pub text : GrewPart before now (script_text given)
   pub none_unread : ended.faults ≡ script.faults
 
 -- What stands at each ending of a run.

@@ -1,5 +1,5 @@
 -- The first script that a reader meets, and what it prints. The byte 1 stands before a letter that means a tab (I) or a line feed (J).
-use Rattle.std.specs.Prelude.{ℕ, List, [], ◌∷◌, ◌++◌, codes}
+use Rattle.std.specs.Prelude.{ℕ, List, ◌∷◌, ◌++◌, codes}
 
 -- A table of people: a number `id`, a text `name` of 32 bytes at most that may be NULL, and a number `n`.
 abbrev pub people_line : List ℕ

@@ -32,15 +32,20 @@ start = record { bytes = []; lines = 0; state = script.start }
 abbrev pub to_print : Held → List ℕ → List ℕ
 to_print held bytes = text_from held.state (lines_of (held.bytes ++ bytes))
 
--- The first bad line of these bytes, where the script ends with them.
-abbrev pub bad_in : Held → List ℕ → Option BadLine
-bad_in held bytes = bad_line_from held.lines held.state (lines_of (held.bytes ++ bytes)) (rest_of (held.bytes ++ bytes))
+-- The first bad line of these bytes, where this stands behind the whole lines.
+abbrev pub bad_by : Held → List ℕ → List ℕ → Option BadLine
+bad_by held bytes end = bad_line_from held.lines held.state (lines_of (held.bytes ++ bytes)) end
+
+-- What stands behind the whole lines of these bytes.
+abbrev pub rest_by : Held → List ℕ → List ℕ
+rest_by held bytes = rest_of (held.bytes ++ bytes)
 
 -- These bytes led from old to new, whatever follows, and what they print was printed.
 pub record Leads (old new : Held) (before now : Taker) (bytes : List ℕ) : Type 0 where
   pub text : List ℕ
   pub prints : (rest : List ℕ) → to_print old (bytes ++ rest) ≡ text ++ to_print new rest
-  pub bad : (rest : List ℕ) → bad_in old (bytes ++ rest) ≡ bad_in new rest
+  pub behind : (rest : List ℕ) → rest_by old (bytes ++ rest) ≡ rest_by new rest
+  pub bad : (rest end : List ℕ) → bad_by old (bytes ++ rest) end ≡ bad_by new rest end
   pub grew : Grew before now text
   pub unfailed : now.faults ≡ before.faults
 
@@ -48,7 +53,7 @@ pub record Leads (old new : Held) (before now : Taker) (bytes : List ℕ) : Type
 pub record IsBad (old : Held) (before now : Taker) (bytes : List ℕ) (line : BadLine) : Type 0 where
   pub text : List ℕ
   pub prints : (rest : List ℕ) → to_print old (bytes ++ rest) ≡ text
-  pub bad : (rest : List ℕ) → bad_in old (bytes ++ rest) ≡ Some line
+  pub bad : (rest beyond : List ℕ) → bad_by old (bytes ++ rest) (rest_by old (bytes ++ rest) ++ beyond) ≡ Some line
   pub grew : Grew before now text
   pub unfailed : now.faults ≡ before.faults
 
@@ -102,10 +107,15 @@ RestIs (steps.Bad line) held = IsLongRest held × (line ≡ bad_line (held.lines
 RestIs steps.Unwritten held = ⊥
 RestIs steps.Memory held = Unit {0}
 
--- How a script ends of which no more comes than is held.
+-- The line behind those that were taken is a bad one, unless its number can't be counted.
+abbrev pub NextBad : Ending → Held → Type 0
+NextBad (endings.Bad line) held = line ≡ bad_line (held.lines + 1) NoEvent
+NextBad endings.Memory held = Unit {0}
+NextBad endings.Whole held = ⊥
+NextBad endings.Unread held = ⊥
+NextBad endings.Unwritten held = ⊥
+
+-- How a script ends of which no more comes than is held: nothing is held, or a line that has no end.
 abbrev pub HeldEnds : Ending → Held → Type 0
-HeldEnds endings.Whole held = bad_in held [] ≡ None
-HeldEnds (endings.Bad line) held = bad_in held [] ≡ Some line
-HeldEnds endings.Unread held = ⊥
-HeldEnds endings.Unwritten held = ⊥
-HeldEnds endings.Memory held = Unit {0}
+HeldEnds endings.Whole held = held.bytes ≡ []
+HeldEnds ending held = (0 < length held.bytes) × NextBad ending held

@@ -1,9 +1,8 @@
 -- A script: its lines, the events that they say, the state that the events lead through, and what they print.
-use Rattle.std.specs.Prelude.{ℕ, ◌+◌, List, [], ◌∷◌, ◌++◌, Bool, true, false, not, ◌&&◌, Option, Some, None, Result, Ok, Err, length, nat_lt, is_some, is_none, unwrap_or, option_map, ◌==◌, if◌then◌else◌}
+use Rattle.std.specs.Prelude.{ℕ, ◌+◌, ◌-◌, ◌^◌, List, [], ◌∷◌, ◌++◌, take, drop, Bool, true, false, not, ◌&&◌, Option, Some, None, Result, Ok, Err, length, nat_lt, is_some, is_none, unwrap_or, option_map, ◌==◌, if◌then◌else◌}
 use Rattle.std.specs.Str.{bytes_eq}
 use Rattle.std.specs.List.{list_all, list_any}
 use Rattle.hs_line.specs.Lines.{lines_of, rest_of}
-use Rattle.hs_token.specs.declared.tokens.Token.{Token}
 use Rattle.request_types.specs.declared.ports.Port.{Port}
 use Rattle.request_types.specs.declared.ports.Port.TheVariants as ports
 use Rattle.row_types.specs.declared.tables.TableDef.{TableDef}
@@ -191,7 +190,7 @@ text_from s (line ∷ lines) =
 abbrev pub bad_line : ℕ → Flaw → BadLine
 bad_line number flaw = record { number = number; flaw = flaw }
 
--- A script ends with a whole line. Bytes behind it are a bad one.
+-- A script ends with a whole line. Bytes behind the last one are a bad line.
 abbrev pub cut_after : ℕ → List ℕ → Option BadLine
 cut_after n rest = if bytes_eq rest [] then None else Some (bad_line (n + 1) NoEvent)
 
@@ -201,10 +200,26 @@ bad_line_from n s [] rest = cut_after n rest
 bad_line_from n s (line ∷ lines) rest =
     by_event (event_in s line) (λ event. bad_line_from (n + 1) (after event s) lines rest) (λ flaw. Some (bad_line (n + 1) flaw))
 
+-- The most bytes that a script may have.
+abbrev pub most_script : ℕ
+most_script = 2 ^ 64 - 1
+
+-- The whole lines among these bytes.
+abbrev pub script_lines : List ℕ → List (List ℕ)
+script_lines bytes = lines_of (take most_script bytes)
+
+-- What stands behind them: a line that has no end, and all bytes beyond the most that a script may have.
+abbrev pub script_rest : List ℕ → List ℕ
+script_rest bytes = rest_of (take most_script bytes) ++ drop most_script bytes
+
 -- What a script prints, up to its first bad line.
 abbrev pub script_text : List ℕ → List ℕ
-script_text bytes = text_from start (lines_of bytes)
+script_text bytes = text_from start (script_lines bytes)
 
 -- A script's first bad line.
 abbrev pub bad_line_of : List ℕ → Option BadLine
-bad_line_of bytes = bad_line_from 0 start (lines_of bytes) (rest_of bytes)
+bad_line_of bytes = bad_line_from 0 start (script_lines bytes) (script_rest bytes)
+
+-- The first bad one of its whole lines.
+abbrev pub bad_whole_line_of : List ℕ → Option BadLine
+bad_whole_line_of bytes = bad_line_from 0 start (script_lines bytes) []

@@ -22,8 +22,6 @@ mod program;
 mod replays;
 mod running;
 mod secrets;
-#[cfg(test)]
-mod tests;
 
 pub use commands::{asks_help, path_of};
 pub use ends::{BadLine, Ending, Flaw, Outcome, Step};

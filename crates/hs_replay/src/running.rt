@@ -1,8 +1,8 @@
 //! A script that is read in pieces, line by line.
-ghost use Rattle.std.specs.Prelude.{◌≡◌, ◌+◌, ◌<◌, ◌≤◌, [], true, false, length, IfOk};
+ghost use Rattle.std.specs.Prelude.{◌≡◌, ◌+◌, ◌<◌, ◌≤◌, [], true, false, length, min, IfOk};
 ghost use Rattle.hs_line.specs.Lines.{has_lf};
 ghost use Rattle.hs_replay.specs.Script.{bad_line};
-ghost use Rattle.hs_replay.specs.Running.{start, step_of, StepDoes, RestIs, HeldEnds};
+ghost use Rattle.hs_replay.specs.Running.{start, step_of, StepDoes, RestIs, NextBad, HeldEnds};
 ghost use Rattle.hs_replay.specs.Ends.{Ends};
 
 use crate::ends::{BadLine, Ending, Flaw, Outcome, Step};
@@ -123,6 +123,13 @@ impl Runner {
         if self.held.room() == BUFFER_SIZE {
             return Ending::Whole;
         }
+        self.next_bad()
+    }
+
+    /// The line behind those that were taken is no event.
+    fn next_bad(&self) -> Ending
+        ensures { NextBad result self.now }
+    {
         match self.lines.checked_add(1) {
             Some(number) => Ending::Bad(BadLine {
                 number,
@@ -155,7 +162,19 @@ fn step_of(number: u64, outcome: Outcome) -> Step
     }
 }
 
-/// Runs the script to its end, or to what keeps it from its end.
+/// How many of the bytes that were read still count.
+fn fitting(count: usize, left: u64) -> usize
+    ensures { result ≡ min count left }
+{
+    if count as u64 > left {
+        left as usize
+    } else {
+        count
+    }
+}
+
+/// Runs the script to its end, or to what keeps it from its end. A byte beyond the most that a script may have is no
+/// event's, and so makes its line a bad one.
 pub fn run<S: Source, K: Sink>(alloc: Global, script: &mut S, out: &mut K) -> Ending
     ensures ends { Ends result (S.giver script.old) (S.giver script.new) (K.taker out.old) (K.taker out.new) }
     ensures script_later { (S.giver script.old).faults ≤ (S.giver script.new).faults }
@@ -165,17 +184,24 @@ pub fn run<S: Source, K: Sink>(alloc: Global, script: &mut S, out: &mut K) -> En
         return Ending::Memory;
     };
     let mut buffer = [0u8; PIECE_SIZE];
-    for _ in 0..u64::MAX {
+    let mut left = u64::MAX;
+    loop {
         match script.read(&mut buffer) {
-            Read::Got(count) => match runner.take_piece(alloc, out, &buffer[..count]) {
-                Step::Done => {}
-                Step::Bad(line) => return Ending::Bad(line),
-                Step::Unwritten => return Ending::Unwritten,
-                Step::Memory => return Ending::Memory,
-            },
+            Read::Got(count) => {
+                let fits = fitting(count, left);
+                match runner.take_piece(alloc, out, &buffer[..fits]) {
+                    Step::Done => {}
+                    Step::Bad(line) => return Ending::Bad(line),
+                    Step::Unwritten => return Ending::Unwritten,
+                    Step::Memory => return Ending::Memory,
+                }
+                if fits < count {
+                    return runner.next_bad();
+                }
+                left -= count as u64;
+            }
             Read::End => return runner.ending(),
             Read::Failed => return Ending::Unread,
         }
     }
-    Ending::Memory
 }

@@ -3,8 +3,8 @@ ghost use Rattle.std.specs.Prelude.{◌≡◌, None, is_some, IfOk};
 ghost use Rattle.line_pipeline.specs.Conn.{secret_of};
 ghost use Rattle.hs_replay.specs.Script.{with_secret};
 
-use request_types::Port;
 use line_pipeline::Secrets;
+use request_types::Port;
 use row_types::ByteText;
 use std::alloc::{AllocError, Global};
 

@@ -1,4 +1,4 @@
-use Rattle.std.proofs.Common.{ℕ, List, ◌++◌, ap, subst, sym, ◌∙◌, decimal}
+use Rattle.std.proofs.Common.{ℕ, List, ◌++◌, subst, decimal}
 use Rattle.std.specs.Prelude.{codes}
 use Rattle.hs_outside.specs.Streams.{Grew, GrewPart}
 use Rattle.hs_outside.proofs.Known.{rose_from}

@@ -7,6 +7,5 @@ mod pieces;
 mod requests;
 mod turns;
 mod volumes;
-mod words;
 
-use super::*;
+use hs_replay::top;
