@@ -1,6 +1,6 @@
 //! The events that a script may have.
-use request_types::Port;
 use hs_token::Token;
+use request_types::Port;
 use row_types::{ByteText, List};
 
 /// What a line of a script says. A connection goes by its number.

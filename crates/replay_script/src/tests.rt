@@ -1,8 +1,8 @@
 //! Tables of lines, and what they say. Their values are the script's rules written out, and none comes from a run.
 use super::*;
 use bytes::Bytes;
-use request_types::Port;
 use hs_token::Token;
+use request_types::Port;
 use std::alloc::{AllocError, Global};
 use std::test::Fail;
 
