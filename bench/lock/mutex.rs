@@ -1,5 +1,5 @@
-//! What the turn lock is measured against: `std::sync::Mutex` around a number, taken and let go by one, two and four
-//! threads. Prints the nanoseconds of a turn, the fastest of five rounds.
+//! What the turn lock is measured against: `std::sync::Mutex` around a number, taken and let go 400,000 times by one, two and
+//! four threads. Prints the nanoseconds that they take, in the fastest of five rounds.
 
 use std::hint::black_box;
 use std::sync::Mutex;
@@ -9,7 +9,7 @@ use std::time::Instant;
 const ROUNDS: usize = 5;
 const TURNS: u64 = 400_000;
 
-fn round(threads: u64) -> u128 {
+fn timed(threads: u64) -> u128 {
     let shared = Mutex::new(0u64);
     let start = Instant::now();
     thread::scope(|scope| {
@@ -21,12 +21,12 @@ fn round(threads: u64) -> u128 {
             });
         }
     });
-    start.elapsed().as_nanos() / u128::from(TURNS)
+    start.elapsed().as_nanos()
 }
 
 fn main() {
-    for (name, threads) in [("one", 1), ("two", 2), ("four", 4)] {
-        let least = (0..ROUNDS).map(|_| round(threads)).min().expect("some rounds");
-        println!("{name} {least}");
+    for threads in [1, 2, 4] {
+        let least = (0..ROUNDS).map(|_| timed(threads)).min().expect("some rounds");
+        println!("threads_{threads} {TURNS} {least}");
     }
 }

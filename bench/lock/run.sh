@@ -11,4 +11,4 @@ for _ in $(seq "${1:-3}"); do
     "$program" | sed 's/^/ours /'
     "$work/mutex" | sed 's/^/Mutex /'
 done >"$work/lines"
-awk -v count=1 -f "$here/../ratios.awk" "$work/lines"
+awk -v count=400000 -f "$here/../ratios.awk" "$work/lines"
