@@ -47,11 +47,11 @@ awk '
         if (sum["ours", script] != sum["plain", script]) { print script ": the two print different bytes"; failed = 1 }
         printf "%-5s ours %8d finds a second, %d MB  plain %8d, %d MB  ratio %.2f\n", script,
             rate("ours", script), memory["ours", script] / 1024, rate("plain", script), memory["plain", script] / 1024,
-            rate("ours", script) / rate("plain", script)
+            rate("plain", script) / rate("ours", script)
     }
     END {
         tell("one")
         tell("many")
-        printf "ours: many / one %.2f\n", rate("ours", "many") / rate("ours", "one")
+        printf "ours: a find of many / of one, ratio %.2f\n", rate("ours", "one") / rate("ours", "many")
         exit failed
     }' runs
