@@ -18,7 +18,8 @@ use Rattle.replay_script.specs.Events.{event_of}
 use Rattle.table_rows.specs.Database.{empty_database}
 use Rattle.replay_turns.specs.Linked.{Linked, linked_at, has_ended, opened, on, peer_sent, peer_ended, with_room, failing_next}
 use Rattle.replay_turns.specs.Session.{Session, turn}
-use Rattle.replay_turns.specs.Shown.{table_at, rows_shown}
+use Rattle.request_types.specs.Names.{table_named}
+use Rattle.replay_turns.specs.Shown.{rows_shown}
 use Rattle.hs_replay.specs.declared.ends.Flaw.{Flaw}
 use Rattle.hs_replay.specs.declared.ends.Flaw.TheVariants.{NoEvent, BadTable}
 use Rattle.hs_replay.specs.declared.ends.BadLine.{BadLine}
@@ -106,7 +107,7 @@ may_come (events.End number) s = may_send number s
 may_come (events.Room number count) s = is_some (port_in number s)
 may_come (events.Fault number) s = is_some (port_in number s)
 may_come (events.Turn port numbers) s = list_all (λ number. is_port (port_in number s) port) numbers
-may_come (events.Show db name) s = is_some (table_at s.schema db name)
+may_come (events.Show db name) s = is_some (table_named s.schema.tables db name)
 
 -- The first rule that a table line breaks, and its token.
 abbrev pub breach_of : Result TableDef Breach → Option Flaw
@@ -156,7 +157,7 @@ after (events.Show db name) s = with_session s (session_of s)
 -- What an event prints.
 abbrev pub printed : Event → State → List ℕ
 printed (events.Turn port numbers) s = (turn numbers (session_of s)).0
-printed (events.Show db name) s = rows_shown (table_at s.schema db name) (session_of s).database
+printed (events.Show db name) s = rows_shown (table_named s.schema.tables db name) (session_of s).database
 printed _ s = []
 
 -- ---- a whole script

@@ -6,7 +6,6 @@ pub mod Places
 pub mod Settling
 pub mod Calls
 mod Shows
-mod Plays
 pub mod ToldLines
 pub mod Turns
 pub mod Answering

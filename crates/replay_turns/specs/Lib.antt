@@ -9,4 +9,3 @@ pub mod Steps
 pub mod Connected
 pub mod Sayings
 pub mod Shown
-pub mod Examples

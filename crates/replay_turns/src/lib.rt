@@ -4,7 +4,7 @@
 //!
 //! `Session` holds all of it: connections are opened under numbers, `peer_bytes`, `peer_end`, `room` and `fail_next` say
 //! what their peers and links will do, and `turn` carries out a turn and prints what each listed connection was sent and
-//! which closed. `show` prints the rows of a table, if one has the names, which `table_at` tells too. Contracts see a list
+//! which closed. `show` prints the rows of a table, if one has the names. Contracts see a list
 //! of connections and the rows of tables. Want of memory is answered at once, and what the session is then isn't said.
 //! Reading a script is left to `replay_script`, and what a request means to `batch_answers`.
 #![tactic(auto)]
@@ -21,4 +21,3 @@ mod showing;
 mod tests;
 
 pub use sessions::Session;
-pub use showing::table_at;

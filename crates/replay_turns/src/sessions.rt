@@ -5,13 +5,14 @@ ghost use Rattle.table_rows.specs.Sizes.{most_bytes};
 ghost use Rattle.table_rows.specs.Database.{empty_database};
 ghost use Rattle.replay_turns.specs.Linked.{Linked, opened, on, linked_at, has_ended, peer_sent, peer_ended, with_room, failing_next};
 ghost use Rattle.replay_turns.specs.Session.{turn};
-ghost use Rattle.replay_turns.specs.Shown.{table_at, rows_shown};
+ghost use Rattle.request_types.specs.Names.{table_named};
+ghost use Rattle.replay_turns.specs.Shown.{rows_shown};
 
 use crate::connections::Connections;
 use crate::sayings::Saying;
-use crate::showing::{push_rows, table_at};
+use crate::showing::push_rows;
 use line_pipeline::Secrets;
-use request_types::Port;
+use request_types::{Port, table_named};
 use row_types::Schema;
 use std::alloc::{AllocError, Global};
 use std::marker::Model;
@@ -160,9 +161,9 @@ impl Session {
     /// joins the text. None does, where no table has these names.
     pub fn show(&self, db: &[u8], name: &[u8], text: &mut Vec<u8>) -> Result<(), AllocError>
         ensures { OnOk result (text.new.items ≡ text.old.items
-            ++ rows_shown (table_at self.now.schema db.now name.now) self.now.database) }
+            ++ rows_shown (table_named self.now.schema.tables db.now name.now) self.now.database) }
     {
-        match table_at(self.tables.schema(), db, name) {
+        match table_named(self.tables.schema().tables.as_slice(), db, name) {
             None => Ok(()),
             Some(table) => push_rows(&self.tables, table, text),
         }

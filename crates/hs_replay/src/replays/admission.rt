@@ -1,14 +1,14 @@
 //! Whether an event may come.
-ghost use Rattle.std.specs.Prelude.{◌≡◌, length};
+ghost use Rattle.std.specs.Prelude.{◌≡◌, length, is_some};
 ghost use Rattle.std.specs.List.{list_all};
+ghost use Rattle.request_types.specs.Names.{table_named};
 ghost use Rattle.hs_replay.specs.Script.{may_come, session_of, is_port, same_port, may_send, port_in};
 
 use crate::replays::Replay;
 use crate::secrets::has_secret;
 use line_pipeline::MAX_CONNS;
 use replay_script::Event;
-use replay_turns::table_at;
-use request_types::Port;
+use request_types::{Port, table_named};
 
 impl Replay {
     pub(super) fn may_come(&self, event: &Event) -> bool
@@ -24,12 +24,15 @@ impl Replay {
             Event::Bytes(number, _) | Event::End(number) => self.may_send(*number),
             Event::Room(number, _) | Event::Fault(number) => self.port_of(*number).is_some(),
             Event::Turn(port, numbers) => self.are_on(*port, numbers.as_slice()),
-            Event::Show(db, name) => table_at(
-                &self.schema,
-                db.as_slice(),
-                name.as_slice(),
-            ).is_some(),
+            Event::Show(db, name) => self.names(db.as_slice(), name.as_slice()),
         }
+    }
+
+    // Whether a table has these names.
+    fn names(&self, db: &[u8], name: &[u8]) -> bool
+        ensures { result ≡ is_some (table_named self.now.schema.tables db.now name.now) }
+    {
+        table_named(self.schema.tables.as_slice(), db, name).is_some()
     }
 
     // How many connections are open.

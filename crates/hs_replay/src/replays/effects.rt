@@ -2,7 +2,8 @@
 ghost use Rattle.std.specs.Prelude.{◌≡◌, ◌++◌, nat_eq, true, is_none, OnOk, OnErr};
 ghost use Rattle.row_types.specs.Valid.{are_distinct};
 ghost use Rattle.replay_turns.specs.Session.{turn};
-ghost use Rattle.replay_turns.specs.Shown.{table_at, rows_shown};
+ghost use Rattle.request_types.specs.Names.{table_named};
+ghost use Rattle.replay_turns.specs.Shown.{rows_shown};
 ghost use Rattle.replay_script.specs.declared.events.Event.TheVariants as events;
 ghost use Rattle.hs_replay.specs.Script.{after, session_of, with_session};
 ghost use Rattle.hs_replay.specs.Running.{TableDoes};
@@ -132,7 +133,7 @@ impl Replay {
     ) -> Result<(), AllocError>
         ensures state { OnOk result (self.new ≡ with_session self.old (session_of self.old)) }
         ensures text { OnOk result (text.new.items ≡ text.old.items
-            ++ rows_shown (table_at self.old.schema db.now name.now) (session_of self.old).database) }
+            ++ rows_shown (table_named self.old.schema.tables db.now name.now) (session_of self.old).database) }
     {
         self.begin(alloc)?;
         match &self.session {

@@ -7,4 +7,4 @@ use Rattle.replay_turns.proofs.sessions.Session.show.Goals as goal
 pub push_rows-requires : goal.push_rows-requires
 push_rows-requires c =
     let state = c.self.inside.tables in
-    omega (arith, c.in-Some.ensures.within, ap (λ (s : Schema). length s.tables) c.schema.ensures.schema, zip_long AreValidRows state.schema.tables state.tables c.schema.ensures.valid.tables)
+    omega (arith, c.in-Some.ensures.within, ap length c.as_slice.ensures, ap (λ (s : Schema). length s.tables) c.schema.ensures.schema, zip_long AreValidRows state.schema.tables state.tables c.schema.ensures.valid.tables)

@@ -1,7 +1,0 @@
-use Rattle.std.proofs.Common.{◌≡◌, sym, subst}
-use Rattle.row_types.specs.Valid.{IsValid}
-use Rattle.replay_turns.proofs.Plays.{some_schema_valid}
-use Rattle.replay_turns.proofs.showing.tests.table.new_tables.Goals as goal
-
-pub new-requires-clause-schema : goal.new-requires-clause-schema
-new-requires-clause-schema c = subst IsValid (sym c.in_ok-schema.ensures) some_schema_valid
