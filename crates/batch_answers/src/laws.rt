@@ -1,6 +1,5 @@
 //! What requests are answered, by examples.
 ghost use Rattle.std.specs.Prelude.{◌≡◌, List, [], ◌∷◌, true, false};
-ghost use Rattle.row_types.specs.Valid.{IsValid};
 ghost use Rattle.request_types.specs.declared.finds.FindOp.TheVariants.{LessEqual, GreaterEqual};
 ghost use Rattle.request_types.specs.declared.mods.ModKind.TheVariants.{Update, Add, Remove};
 ghost use Rattle.request_types.specs.declared.requests.Request.TheVariants.{Find, Modify, Insert};
@@ -11,11 +10,10 @@ ghost use Rattle.request_types.specs.declared.batches.Item.{Item};
 ghost use Rattle.request_types.specs.declared.batches.ItemKind.{ItemKind};
 ghost use Rattle.table_rows.specs.Database.{Database};
 ghost use Rattle.batch_answers.specs.Answers.{request_answered, answered, answers, replies_for, items_for, IsReply, AreLines};
-ghost use Rattle.batch_answers.specs.Examples.{tested, rows_within, four, showing, change_by, insert_of};
+ghost use Rattle.batch_answers.specs.Examples.{rows_within, four, showing, change_by, insert_of};
 
 /// Requests on the rows (1, a, 4), (2, b, 4), (3, c, 4) and (4, d, 6), by id or by the last number.
 pub fn worked_answers()
-    ensures valid { IsValid tested }
     // 0 1 3 2
     ensures find { request_answered (rows_within 0 four)
         (Find (showing (0 ∷ []) (find_of 1 LessEqual 4 2 0)))

@@ -22,8 +22,6 @@ mod finds;
 mod inserts;
 mod items;
 mod laws;
-#[cfg(test)]
-mod tests;
 
 pub use batches::run_batch;
 pub use laws::{items_are_answered_by_lines, worked_answers};
