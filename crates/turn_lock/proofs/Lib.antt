@@ -9,3 +9,4 @@ mod Dealing
 mod Joining
 mod Closing
 mod Learned
+mod Agreement

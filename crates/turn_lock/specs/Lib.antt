@@ -3,3 +3,4 @@ pub mod Serial
 pub mod Steps
 pub mod Known
 pub mod Turns
+pub mod Agreement

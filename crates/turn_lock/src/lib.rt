@@ -13,10 +13,14 @@
 //! Each pass has seen a beginning of the one history, and has its own entries there in order. The history itself is kept
 //! nowhere: it stands in the rule of the table of words (`specs/Serial.antt`) and in what passes know, which take no
 //! memory. Nothing is claimed of progress: not that a turn comes, nor how soon.
+//!
+//! A pass that finds a ticket out waits for a while without one, and then draws one; it leaves its processor to others, and
+//! sleeps on SERVING where its ticket isn't served for long. A turn that ends while a ticket is out wakes those that sleep.
 #![tactic(auto)]
 
 mod handing;
 mod keeps;
+mod laws;
 mod pass;
 mod rule;
 #[cfg(test)]
@@ -26,5 +30,6 @@ mod view;
 mod waiting;
 
 pub use keeps::Keeps;
+pub use laws::one_history;
 pub use pass::{Held, Pass, Turn};
 pub use turns::Turns;

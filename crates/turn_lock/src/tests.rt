@@ -1,10 +1,12 @@
 //! Turns of several threads over a counter, which stands for the entries that it has counted.
 ghost use Rattle.std.specs.Prelude.{◌≡◌, ◌+◌, ◌%◌, ◌^◌, [], ◌∷◌, ◌++◌, length};
+ghost use mathlib.Core.List.{IsPrefix};
 
 use crate::{Keeps, Pass, Turns};
 use std::sync::Wait;
 use std::test::Fail;
-use std::thread::{Threads, join};
+use std::thread::{Threads, join, sleep};
+use std::time::{Clock, Duration};
 
 /// How many entries there were, what each pass's next one is to be, and whether all were that.
 #[derive(Drop)]
@@ -48,14 +50,18 @@ impl Counter {
     }
 }
 
-fn take_turns<R: Wait>(
+// So many turns of one pass, in each of which it sleeps for so long.
+fn take_turns<R: Wait + Clock>(
     rt: &R,
     turns: &Turns<Counter>,
     pass: Pass<Counter>,
     times: u64,
+    nap: Option<Duration>,
 ) -> Pass<Counter>
     requires { pass.lock ≡ turns.now.id }
-    ensures { (result.lock ≡ pass.lock) × (result.passes ≡ pass.passes) }
+    ensures pass { (result.lock ≡ pass.lock) × (result.passes ≡ pass.passes) }
+    ensures own { length result.mine ≡ length pass.mine + times }
+    ensures seen { IsPrefix pass.seen result.seen }
 {
     let mut pass = pass;
     for place in 0..times {
@@ -63,38 +69,48 @@ fn take_turns<R: Wait>(
         let mut held = turns.enter(rt, pass);
         let entry = Entry { by, place };
         held.value.count(&entry);
+        if let Some(nap) = nap {
+            sleep(rt, nap);
+        }
         pass = turns.leave(held, Some(&entry));
     }
     pass
 }
 
 // The turns of two passes, each in a thread of its own.
-fn in_two_threads<R: Threads + Wait + Sync>(
+fn in_two_threads<R: Threads + Wait + Clock + Sync>(
     rt: &R,
     turns: &Turns<Counter>,
     a: Pass<Counter>,
     b: Pass<Counter>,
     times: u64,
+    nap: Option<Duration>,
 ) -> Pass<Counter>
     requires { (a.lock ≡ turns.now.id) × (b.lock ≡ turns.now.id) }
-    ensures { (result.lock ≡ a.lock) × (result.passes ≡ a.passes + b.passes) }
+    ensures pass { (result.lock ≡ a.lock) × (result.passes ≡ a.passes + b.passes) }
+    ensures own { length result.mine ≡ length a.mine + times }
+    ensures seen { IsPrefix a.seen result.seen × IsPrefix b.seen result.seen }
 {
     let (a, b) = join(
         rt,
         || -> Pass<Counter>
             requires { a.lock ≡ turns.now.id }
-            ensures { (result.lock ≡ a.lock) × (result.passes ≡ a.passes) }
-        { take_turns(rt, turns, a, times) },
+            ensures pass { (result.lock ≡ a.lock) × (result.passes ≡ a.passes) }
+            ensures own { length result.mine ≡ length a.mine + times }
+            ensures seen { IsPrefix a.seen result.seen }
+        { take_turns(rt, turns, a, times, nap) },
         || -> Pass<Counter>
             requires { b.lock ≡ turns.now.id }
-            ensures { (result.lock ≡ b.lock) × (result.passes ≡ b.passes) }
-        { take_turns(rt, turns, b, times) },
+            ensures pass { (result.lock ≡ b.lock) × (result.passes ≡ b.passes) }
+            ensures own { length result.mine ≡ length b.mine + times }
+            ensures seen { IsPrefix b.seen result.seen }
+        { take_turns(rt, turns, b, times, nap) },
     );
     turns.join(a, b)
 }
 
 // The turns of four.
-fn in_four_threads<R: Threads + Wait + Sync>(
+fn in_four_threads<R: Threads + Wait + Clock + Sync>(
     rt: &R,
     turns: &Turns<Counter>,
     first: (Pass<Counter>, Pass<Counter>),
@@ -111,11 +127,11 @@ fn in_four_threads<R: Threads + Wait + Sync>(
         || -> Pass<Counter>
             requires { (a.lock ≡ turns.now.id) × (b.lock ≡ turns.now.id) }
             ensures { result.lock ≡ a.lock }
-        { in_two_threads(rt, turns, a, b, times) },
+        { in_two_threads(rt, turns, a, b, times, None) },
         || -> Pass<Counter>
             requires { (c.lock ≡ turns.now.id) × (d.lock ≡ turns.now.id) }
             ensures { result.lock ≡ c.lock }
-        { in_two_threads(rt, turns, c, d, times) },
+        { in_two_threads(rt, turns, c, d, times, None) },
     );
     turns.join(left, right)
 }
@@ -174,7 +190,7 @@ fn two_threads_count_each_turn_once(rt: HostRuntime) -> Result<(), Fail> {
     let (Some(b), Some(a)) = (passes.pop(), passes.pop()) else {
         unreachable!()
     };
-    let pass = in_two_threads(&rt, &turns, a, b, 10_000);
+    let pass = in_two_threads(&rt, &turns, a, b, 10_000, None);
     let Ok(counter) = turns.close(pass) else {
         panic!(rt; "both passes were joined")
     };
@@ -192,11 +208,11 @@ fn closes_after_the_last_join_in_any_order(rt: HostRuntime) -> Result<(), Fail> 
         let Some(a) = passes.pop() else {
             unreachable!()
         };
-        let a = take_turns(&rt, &turns, a, 2);
+        let a = take_turns(&rt, &turns, a, 2, None);
         let Err((turns, a)) = turns.close(a) else {
             panic!(rt; "two passes are out")
         };
-        let c = take_turns(&rt, &turns, c, 3);
+        let c = take_turns(&rt, &turns, c, 3, None);
         let pass = all_joined(&turns, order, a, b, c);
         let Ok(counter) = turns.close(pass) else {
             panic!(rt; "all passes were joined")
@@ -206,5 +222,21 @@ fn closes_after_the_last_join_in_any_order(rt: HostRuntime) -> Result<(), Fail> 
             "in order {order}"
         );
     }
+    Ok(())
+}
+
+// The turns are so long that who waits for one sleeps, and would sleep for ever if nobody woke it.
+#[test]
+fn a_pass_that_waits_for_long_is_woken(rt: HostRuntime) -> Result<(), Fail> {
+    let (turns, mut passes) = Turns::new(rt.alloc(), fresh(), 2)?;
+    let (Some(b), Some(a)) = (passes.pop(), passes.pop()) else {
+        unreachable!()
+    };
+    let nap = Duration::from_millis(100);
+    let pass = in_two_threads(&rt, &turns, a, b, 3, Some(nap));
+    let Ok(counter) = turns.close(pass) else {
+        panic!(rt; "both passes were joined")
+    };
+    assert!(rt; counter.entries == 6 && counter.in_order);
     Ok(())
 }

@@ -8,7 +8,7 @@ use crate::keeps::Keeps;
 use crate::pass::{Held, Pass, Place, Turn};
 use crate::rule::{Both, Deal, Draw, PassOn, Serial, Settle};
 use crate::view::{Dealt, View};
-use crate::waiting::await_turn;
+use crate::waiting::{await_turn, hold_back, wake_waiting};
 use atomic_table::{Refused, Table};
 use std::alloc::{AllocFailed, Global};
 use std::marker::Model;
@@ -16,7 +16,7 @@ use std::snapshot::Snapshot;
 use std::sync::Wait;
 
 // The words, each on cache lines of its own.
-const TICKET: usize = 0;
+pub(crate) const TICKET: usize = 0;
 
 pub(crate) const SERVING: usize = 16;
 
@@ -92,6 +92,7 @@ impl<B: Keeps> Turns<B> {
             mut seat,
         } = pass;
         let shared = &self.table.shared;
+        hold_back(shared);
         let ticket = shared.fetch_add::<Draw>(&mut seat, TICKET, 1);
         await_turn(rt, shared, &mut seat, ticket);
         let Some(value) = shared.exchange(&mut seat, 0, None) else {
@@ -122,6 +123,7 @@ impl<B: Keeps> Turns<B> {
         let shared = &self.table.shared;
         hand_in(shared, &mut seat, value, entry);
         shared.fetch_add::<PassOn<B>>(&mut seat, SERVING, 1);
+        wake_waiting(shared);
         Pass {
             number,
             passes,
