@@ -1,0 +1,5 @@
+pub mod Logic
+pub mod Worth
+pub mod Eval
+pub mod Kinds
+pub mod Fits
