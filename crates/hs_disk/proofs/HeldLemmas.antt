@@ -3,14 +3,14 @@ use Rattle.std.proofs.Common.{◌≡◌, ◌⊎◌, inl, inr, ℕ, ◌<◌, ◌^
 use Rattle.fault_count.specs.Cause.{HasCause}
 use Rattle.hs_disk.specs.Disk.{Follows, Elapses}
 use Rattle.hs_disk.specs.Held.{Held, FailsWith, IsFailed, carried_out, next_count}
-use Rattle.hs_disk.specs.Images.{images_after, WasImageSince, read_after}
+use Rattle.hs_disk.specs.Images.{images_after, WasImageAt, read_after}
 use Rattle.hs_disk.specs.Sound.{IsSound, images}
 use Rattle.hs_disk.specs.declared.change.Change.{Change}
 use Rattle.hs_disk.specs.declared.change.Change.TheVariants.{Wrote, LostWrite, CutTo, LostCut, Synced, Lost}
 use Rattle.hs_disk.proofs.ImageLemmas.{leaves_after, elapses_push, elapses_same, torn_same}
 
 abbrev pub HeldElapses : Held → Held → Type 0
-HeldElapses old new = Elapses (length old.changes) (length new.changes) (WasImageSince old.first old.changes) (WasImageSince new.first new.changes) (images new)
+HeldElapses old new = Elapses (length old.changes) (length new.changes) (WasImageAt old.first old.changes) (WasImageAt new.first new.changes) (images new)
 
 -- a call that was carried out
 pub out_leaves : (change : Change) (bytes : List ℕ) (old new : Held) → new ≡ carried_out old change bytes → IsSound old → (image : List ℕ) → images new image → images_after change old.bytes (images old) image

@@ -1,9 +1,9 @@
 -- The images of a disk in memory after one call more.
-use Rattle.std.proofs.Common.{◌≡◌, ◌⊎◌, inl, inr, ℕ, ◌+◌, ◌≤◌, max, List, [], ◌∷◌, ◌++◌, length, take, drop, refl, sym, ◌∙◌, ap, subst, arith, length-append}
+use Rattle.std.proofs.Common.{◌≡◌, ℕ, ◌+◌, ◌≤◌, max, List, [], ◌∷◌, ◌++◌, length, take, drop, refl, sym, ◌∙◌, ap, subst, arith, length-append}
 use Rattle.std.proofs.lemmas.List.{take_all, take_at, drop_at, take-append-le, length-take-le, length-drop, append_assoc}
-use Rattle.std.proofs.lemmas.Bool.{cases_lt}
 use Rattle.hs_disk.specs.Disk.{written, Torn, Elapses}
-use Rattle.hs_disk.specs.Images.{read_after, images_after, read_at_end, images_at_end, IsImage, WasImageSince}
+use Rattle.hs_disk.specs.Images.{read_after, images_after, read_at_end, images_at_end, IsImage, WasImageAt}
+use Rattle.hs_disk.specs.Picks.{IsWithin, AreWithin}
 use Rattle.hs_disk.specs.declared.change.Change.{Change}
 
 pub read_push : (seen : List ℕ) (changes : List Change) (change : Change) → read_at_end seen (changes ++ change ∷ []) ≡ read_after change (read_at_end seen changes)
@@ -22,28 +22,24 @@ push_from seen images (c ∷ changes) change image is = push_from (read_after c 
 abbrev Now : List ℕ → List Change → List ℕ → Type 0
 Now first changes = IsImage first changes
 
-pub elapses_same : (first : List ℕ) (changes : List Change) → Elapses (length changes) (length changes) (WasImageSince first changes) (WasImageSince first changes) (IsImage first changes)
-elapses_same first changes = record { later = omega arith; nothing_else = λ t image le was. inl was; keeps = λ t image le was. was }
+pub elapses_same : (first : List ℕ) (changes : List Change) → Elapses (length changes) (length changes) (WasImageAt first changes) (WasImageAt first changes) (IsImage first changes)
+elapses_same first changes = record {
+  later = omega arith;
+  stays = λ t image le was. was;
+  keeps = λ t image le was. was;
+  nothing_else = λ t image past within was. absurd (omega (arith, past, within));
+}
 
-pub elapses_push : (first : List ℕ) (changes : List Change) (change : Change) → Elapses (length changes) (length (changes ++ change ∷ [])) (WasImageSince first changes) (WasImageSince first (changes ++ change ∷ [])) (IsImage first (changes ++ change ∷ []))
+pub elapses_push : (first : List ℕ) (changes : List Change) (change : Change) → Elapses (length changes) (length (changes ++ change ∷ [])) (WasImageAt first changes) (WasImageAt first (changes ++ change ∷ [])) (IsImage first (changes ++ change ∷ []))
 elapses_push first changes change = record {
   later = omega (arith, longer);
-  nothing_else = λ t image le was. sorted t image was;
-  keeps = λ t image le was. kept t image was;
+  stays = λ t image le was. (le, subst (λ (l : List Change). IsImage first l image) (take-append-le t changes (change ∷ []) le) was.1);
+  keeps = λ t image le was. (omega (arith, longer, le), subst (λ (l : List Change). IsImage first l image) (sym (take-append-le t changes (change ∷ []) le)) was.1);
+  nothing_else = λ t image past within was. subst (λ (l : List Change). IsImage first l image) (take_all t (changes ++ change ∷ []) (omega (arith, longer, past))) was.1;
 }
   where
     longer : length (changes ++ change ∷ []) ≡ length changes + 1
     longer = length-append changes (change ∷ [])
-
-    sorted : (t : ℕ) (image : List ℕ) → WasImageSince first (changes ++ change ∷ []) t image → WasImageSince first changes t image ⊎ IsImage first (changes ++ change ∷ []) image
-    sorted t image was = elim (cases_lt (length changes) was.0) [
-      | inl past ↦ inr (subst (λ (l : List Change). IsImage first l image) (take_all was.0 (changes ++ change ∷ []) (omega (arith, longer))) was.3)
-      | inr within ↦ inl (was.0, was.1, within, subst (λ (l : List Change). IsImage first l image) (take-append-le was.0 changes (change ∷ []) within) was.3)
-    ]
-
-    kept : (t : ℕ) (image : List ℕ) → WasImageSince first changes t image → WasImageSince first (changes ++ change ∷ []) t image
-    kept t image was =
-        (was.0, was.1, omega (arith, longer, was.2), subst (λ (l : List Change). IsImage first l image) (sym (take-append-le was.0 changes (change ∷ []) was.2)) was.3)
 
 -- an interrupted write may have changed nothing
 pub torn_same : (at n : ℕ) (bytes : List ℕ) → Torn at n bytes bytes
@@ -70,13 +66,18 @@ torn_written at bytes old within = record {
     through : length (take at old ++ bytes) ≡ at + length bytes
     through = omega (arith, front, length-append (take at old) bytes)
 
+within_push : (seen : List ℕ) (changes : List Change) (change : Change) → AreWithin seen changes → IsWithin change (read_at_end seen changes) → AreWithin seen (changes ++ change ∷ [])
+within_push seen [] change places within = (within, tt)
+within_push seen (c ∷ changes) change places within = (places.0, within_push (read_after c seen) changes change places.1 within)
+
 -- a sound disk after one call more, where what it reads then is one of its images
-pub sound_after : (first : List ℕ) (changes later : List Change) (bytes now : List ℕ) (change : Change) → later ≡ changes ++ change ∷ [] → now ≡ read_after change bytes → read_at_end first changes ≡ bytes → images_after change bytes (IsImage first changes) (read_after change bytes) → (read_at_end first later ≡ now) × IsImage first later now
-sound_after first changes later bytes now change more is replays reads = (
+pub sound_after : (first : List ℕ) (changes later : List Change) (bytes now : List ℕ) (change : Change) → later ≡ changes ++ change ∷ [] → now ≡ read_after change bytes → read_at_end first changes ≡ bytes → images_after change bytes (IsImage first changes) (read_after change bytes) → AreWithin first changes → IsWithin change bytes → (read_at_end first later ≡ now) × IsImage first later now × AreWithin first later
+sound_after first changes later bytes now change more is replays reads places within = (
   ap (λ (l : List Change). read_at_end first l) more ∙ read_push first changes change ∙ ap (λ (l : List ℕ). read_after change l) replays ∙ sym is,
   subst (λ (l : List Change). IsImage first l now) (sym more) (push_from first (λ image. image ≡ first) changes change now
       (subst (λ (l : List ℕ). images_after change (read_at_end first changes) (IsImage first changes) l) (sym is)
       (subst (λ (l : List ℕ). images_after change l (IsImage first changes) (read_after change bytes)) (sym replays) reads))),
+  subst (AreWithin first) (sym more) (within_push first changes change places (subst (IsWithin change) (sym replays) within)),
 )
 
 -- the images that one call more leaves

@@ -1,5 +1,5 @@
 -- What the calls of a disk do to the bytes that it shows, and to the images that a crash may leave.
-use Rattle.std.specs.Prelude.{◌≡◌, ◌⊎◌, ℕ, zero, suc, ◌+◌, ◌-◌, ◌≤◌, min, max, List, ◌++◌, length, take, drop}
+use Rattle.std.specs.Prelude.{◌≡◌, ◌⊎◌, ℕ, zero, suc, ◌+◌, ◌-◌, ◌<◌, ◌≤◌, min, max, List, ◌++◌, length, take, drop}
 use Rattle.fault_count.specs.Cause.{next_count}
 
 -- these bytes written over the old ones at this place, and past their end
@@ -33,6 +33,10 @@ Follows step old new =
 abbrev pub AddsNone : (List ℕ → Type 0) → (List ℕ → Type 0) → Type 0
 AddsNone old new = (image : List ℕ) → new image → old image
 
+-- each image is of this kind
+abbrev pub AllImages : (List ℕ → Type 0) → (List ℕ → Type 0) → Type 0
+AllImages P images = (image : List ℕ) → images image → P image
+
 -- a crash leaves these bytes and nothing else
 abbrev pub Only : List ℕ → (List ℕ → Type 0) → Type 0
 Only bytes images = (image : List ℕ) → images image → image ≡ bytes
@@ -42,17 +46,20 @@ abbrev pub calls_after : ℕ → ℕ → ℕ
 calls_after zero count = count
 calls_after (suc n) count = next_count (calls_after n count)
 
--- Time goes on: a crash at some moment since t may have left what it may have left before, or what
--- it may leave now.
-pub record Elapses (before now : ℕ) (past since : ℕ → List ℕ → Type 0) (may_leave : List ℕ → Type 0) : Type 0 where
+-- Time goes on: what a crash at a moment up to the old one may have left stays, and one at a later
+-- moment may have left what it may leave now.
+pub record Elapses (before now : ℕ) (past new : ℕ → List ℕ → Type 0)
+    (may_leave : List ℕ → Type 0) : Type 0 where
   pub later : before ≤ now
-  pub nothing_else : (t : ℕ) (image : List ℕ) → t ≤ before → since t image → past t image ⊎ may_leave image
-  pub keeps : (t : ℕ) (image : List ℕ) → t ≤ before → past t image → since t image
+  pub stays : (t : ℕ) (image : List ℕ) → t ≤ before → new t image → past t image
+  pub keeps : (t : ℕ) (image : List ℕ) → t ≤ before → past t image → new t image
+  pub nothing_else : (t : ℕ) (image : List ℕ) → before < t → t ≤ now → new t image → may_leave image
 
--- A crash at any moment since the old state leaves an image that has P.
-pub record LeavesOnly {D : Type 0} (moment : D → ℕ) (left_since : D → ℕ → List ℕ → Type 0) (old new : D)
-    (P : List ℕ → Type 0) : Type 0 where
+-- A crash at each moment from the old state to the new one leaves an image that has P, and at an
+-- earlier one no other than before.
+pub record LeavesOnly {D : Type 0} (moment : D → ℕ) (left_at : D → ℕ → List ℕ → Type 0)
+    (old new : D) (P : List ℕ → Type 0) : Type 0 where
   pub later : moment old ≤ moment new
-  pub each : (image : List ℕ) → left_since new (moment old) image → P image
-  -- for a run that began earlier
-  pub before : (t : ℕ) (image : List ℕ) → t ≤ moment old → left_since new t image → left_since old t image ⊎ P image
+  pub each : (t : ℕ) (image : List ℕ) → moment old ≤ t → t ≤ moment new
+      → left_at new t image → P image
+  pub before : (t : ℕ) (image : List ℕ) → t ≤ moment old → left_at new t image → left_at old t image

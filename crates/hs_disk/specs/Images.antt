@@ -40,7 +40,6 @@ images_at_end seen images (change ∷ changes) =
 abbrev pub IsImage : List ℕ → List Change → List ℕ → Type 0
 IsImage first = images_at_end first (λ image. image ≡ first)
 
--- an image after some number of these calls, and at least t of them
-abbrev pub WasImageSince : List ℕ → List Change → ℕ → List ℕ → Type 0
-WasImageSince first changes t image =
-    (k : ℕ) × (t ≤ k) × (k ≤ length changes) × IsImage first (take k changes) image
+-- an image after the first t of these calls
+abbrev pub WasImageAt : List ℕ → List Change → ℕ → List ℕ → Type 0
+WasImageAt first changes t image = (t ≤ length changes) × IsImage first (take t changes) image

@@ -1,11 +1,13 @@
 pub use Rattle.fault_count.specs.Cause
 pub mod Disk
+pub mod Grows
 pub mod Held
 pub mod Images
 pub mod Inside
 pub mod Length
 pub mod HostFile
 pub mod OpenFile
+pub mod Picks
 pub mod Foreign
 pub mod Sound
 pub mod Writes

@@ -5,7 +5,7 @@ use Rattle.hs_disk.specs.declared.change.Change.TheVariants.{Wrote}
 use Rattle.hs_disk.specs.Disk.{written, Torn, Follows, Elapses}
 use Rattle.hs_disk.specs.Held.{Held, carried_out, FailsWith, is_to_fail, lost_write}
 use Rattle.hs_disk.specs.Length.{past_end}
-use Rattle.hs_disk.specs.Sound.{IsSound, images, left_since}
+use Rattle.hs_disk.specs.Sound.{IsSound, images, left_at}
 
 -- these bytes were written at this place, or the call failed and all reads as before
 pub record Writes {T E : Type 0} (at : ℕ) (bytes : List ℕ) (old new : Held) (result : Result T E) : Type 0 where
@@ -16,6 +16,6 @@ pub record Writes {T E : Type 0} (at : ℕ) (bytes : List ℕ) (old new : Held) 
   pub room : OnOk result (at + length bytes < 2 ^ 63)
   -- what a crash may leave
   pub crash : Follows (Torn at (length bytes)) (images old) (images new)
-  pub time : Elapses (length old.changes) (length new.changes) (left_since old) (left_since new) (images new)
+  pub time : Elapses (length old.changes) (length new.changes) (left_at old) (left_at new) (images new)
   pub was_sound : IsSound old
   pub sound : IsSound new

@@ -21,15 +21,17 @@ pub trait Disk {
     /// The moment, as a number that never falls.
     ghost moment: { Self → ℕ };
 
-    /// The images that a crash at some moment since that one may have left, during a call or
-    /// between two.
-    ghost left_since: { Self → ℕ → List ℕ → Type 0 };
+    /// The images that a crash at a moment up to now may have left, during a call or between two.
+    ghost left_at: { Self → ℕ → List ℕ → Type 0 };
 
     /// How many calls have failed so far. The count stands still at its type's end.
     ghost fault_count: { Self → ℕ };
 
     /// How many changing calls were asked for so far, in a count that stands still likewise.
     ghost calls: { Self → ℕ };
+
+    /// Which disk it is. So a struct that holds a borrowed one says that it keeps it.
+    ghost which: { Self → ℕ };
 
     fn faults(&self) -> u64
         ensures { result ≡ fault_count self.now };
@@ -42,8 +44,10 @@ pub trait Disk {
         ensures crash { tells → AddsNone (may_leave self.old) (may_leave self.new) }
         ensures reading { tells → may_leave self.new (seen self.new) }
         ensures time { tells → Elapses (moment self.old) (moment self.new)
-            (left_since self.old) (left_since self.new) (may_leave self.new) }
+            (left_at self.old) (left_at self.new) (may_leave self.new) }
         ensures calls { tells → calls self.new ≡ calls self.old }
+        ensures same { which self.new ≡ which self.old }
+        ensures faultless { OnOk result (fault_count self.new ≡ fault_count self.old) }
         ensures cause { HasCause (fault_count self.old) (fault_count self.new) result };
 
     /// Fills the buffer from this place on, except at the disk's end, and says how many bytes it
@@ -55,8 +59,10 @@ pub trait Disk {
         ensures crash { tells → AddsNone (may_leave self.old) (may_leave self.new) }
         ensures reading { tells → may_leave self.new (seen self.new) }
         ensures time { tells → Elapses (moment self.old) (moment self.new)
-            (left_since self.old) (left_since self.new) (may_leave self.new) }
+            (left_at self.old) (left_at self.new) (may_leave self.new) }
         ensures calls { tells → calls self.new ≡ calls self.old }
+        ensures same { which self.new ≡ which self.old }
+        ensures faultless { OnOk result (fault_count self.new ≡ fault_count self.old) }
         ensures cause { HasCause (fault_count self.old) (fault_count self.new) result };
 
     /// Writes over what is there, and past the end. Until a sync, a crash may leave any bytes in
@@ -72,8 +78,10 @@ pub trait Disk {
             (may_leave self.old) (may_leave self.new) }
         ensures reading { tells → may_leave self.new (seen self.new) }
         ensures time { tells → Elapses (moment self.old) (moment self.new)
-            (left_since self.old) (left_since self.new) (may_leave self.new) }
+            (left_at self.old) (left_at self.new) (may_leave self.new) }
         ensures calls { tells → calls self.new ≡ next_count (calls self.old) }
+        ensures same { which self.new ≡ which self.old }
+        ensures faultless { OnOk result (fault_count self.new ≡ fault_count self.old) }
         ensures cause { HasCause (fault_count self.old) (fault_count self.new) result };
 
     /// Writes three pieces one after another, as `write_at` would write them joined.
@@ -88,8 +96,10 @@ pub trait Disk {
             (may_leave self.old) (may_leave self.new) }
         ensures reading { tells → may_leave self.new (seen self.new) }
         ensures time { tells → Elapses (moment self.old) (moment self.new)
-            (left_since self.old) (left_since self.new) (may_leave self.new) }
+            (left_at self.old) (left_at self.new) (may_leave self.new) }
         ensures calls { tells → calls self.new ≡ next_count (calls self.old) }
+        ensures same { which self.new ≡ which self.old }
+        ensures faultless { OnOk result (fault_count self.new ≡ fault_count self.old) }
         ensures cause { HasCause (fault_count self.old) (fault_count self.new) result };
 
     /// Cuts the disk to a length, and leaves a shorter one. Until a sync, a crash may leave either
@@ -100,8 +110,10 @@ pub trait Disk {
         ensures crash { tells → Follows (Cut len) (may_leave self.old) (may_leave self.new) }
         ensures reading { tells → may_leave self.new (seen self.new) }
         ensures time { tells → Elapses (moment self.old) (moment self.new)
-            (left_since self.old) (left_since self.new) (may_leave self.new) }
+            (left_at self.old) (left_at self.new) (may_leave self.new) }
         ensures calls { tells → calls self.new ≡ next_count (calls self.old) }
+        ensures same { which self.new ≡ which self.old }
+        ensures faultless { OnOk result (fault_count self.new ≡ fault_count self.old) }
         ensures cause { HasCause (fault_count self.old) (fault_count self.new) result };
 
     /// After it, a crash leaves what a read gives.
@@ -111,17 +123,19 @@ pub trait Disk {
         ensures crash { tells → AddsNone (may_leave self.old) (may_leave self.new) }
         ensures reading { tells → may_leave self.new (seen self.new) }
         ensures time { tells → Elapses (moment self.old) (moment self.new)
-            (left_since self.old) (left_since self.new) (may_leave self.new) }
+            (left_at self.old) (left_at self.new) (may_leave self.new) }
         ensures calls { tells → calls self.new ≡ next_count (calls self.old) }
+        ensures same { which self.new ≡ which self.old }
+        ensures faultless { OnOk result (fault_count self.new ≡ fault_count self.old) }
         ensures cause { HasCause (fault_count self.old) (fault_count self.new) result };
 
-    /// This moment is one of those since an earlier one.
-    ghost counts_now: { (disk : Self) (t : ℕ) (image : List ℕ) → tells → t ≤ moment disk
-        → may_leave disk image → left_since disk t image };
+    /// What a crash now may leave, one at this moment may leave.
+    ghost counts_now: { (disk : Self) (image : List ℕ) → tells
+        → may_leave disk image → left_at disk (moment disk) image };
 
-    /// Since this moment there is no other.
+    /// And nothing else.
     ghost only_now: { (disk : Self) (image : List ℕ) → tells
-        → left_since disk (moment disk) image → may_leave disk image };
+        → left_at disk (moment disk) image → may_leave disk image };
 }
 
 impl<D: Disk> Disk for &mut D {
@@ -133,11 +147,13 @@ impl<D: Disk> Disk for &mut D {
 
     ghost moment = { λ d. D.moment d.now };
 
-    ghost left_since = { λ d. D.left_since d.now };
+    ghost left_at = { λ d. D.left_at d.now };
 
     ghost fault_count = { λ d. D.fault_count d.now };
 
     ghost calls = { λ d. D.calls d.now };
+
+    ghost which = { λ d. d.ghost_name };
 
     ghost counts_now = { λ d. D.counts_now d.now };
 

@@ -206,13 +206,15 @@ impl<F: HostFile> Disk for FileDisk<F> {
 
     ghost moment = { λ d. 0 };
 
-    ghost left_since = { λ d t image. ⊥ };
+    ghost left_at = { λ d t image. ⊥ };
 
     ghost fault_count = { λ d. d.faults };
 
     ghost calls = { λ d. 0 };
 
-    ghost counts_now = { λ d t image told. absurd told };
+    ghost which = { λ d. 0 };
+
+    ghost counts_now = { λ d image told. absurd told };
 
     ghost only_now = { λ d image told. absurd told };
 

@@ -20,7 +20,9 @@ mod host_file;
 mod laws;
 mod length;
 mod mem_disk;
+mod pick;
 mod saved;
+mod steps;
 #[cfg(test)]
 mod tests;
 
@@ -30,3 +32,4 @@ pub use foreign::MARK;
 pub use host_file::HostFile;
 pub use laws::worked_examples;
 pub use mem_disk::MemDisk;
+pub use pick::Pick;

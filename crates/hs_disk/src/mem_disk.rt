@@ -1,10 +1,12 @@
 //! A disk in memory, whose changing calls fail where it is told to.
-ghost use Rattle.std.specs.Prelude.{◌≡◌, ◌+◌, ◌^◌, ◌<◌, ◌≤◌, length, take, IfOk, OnOk, OnErr};
+ghost use Rattle.std.specs.Prelude.{◌≡◌, ◌+◌, ◌^◌, ◌<◌, ◌≤◌, [], length, min, take, IfOk, OnOk, OnErr};
 ghost use Rattle.hs_disk.specs.Disk.{written};
 
 use crate::change::Change;
 use crate::length::{MAX_LEN, joined_len};
+use crate::pick::Pick;
 use crate::saved::Saved;
+use crate::steps::{overwrite, pick_on, read_on};
 use crate::{Disk, Failed};
 use fault_count::raised;
 use std::alloc::{AllocError, Global};
@@ -38,7 +40,8 @@ impl Model for MemDisk {
 impl MemDisk {
     ghost use Rattle.hs_disk.specs.declared.change.Change.TheVariants.{Wrote, CutTo, Synced};
     ghost use Rattle.hs_disk.specs.Held.{made, carried_out, out_of_memory, next_count, FailsWith, is_to_fail, IsFailed};
-    ghost use Rattle.hs_disk.specs.Sound.{IsSound};
+    ghost use Rattle.hs_disk.specs.Picks.{IsWithin, picked};
+    ghost use Rattle.hs_disk.specs.Sound.{IsSound, left_at};
 
     /// A disk with these bytes, all of them synced, whose changing calls with these numbers fail.
     pub fn of(alloc: Global, bytes: &[u8], fail_at: &[u64]) -> Result<MemDisk, AllocError>
@@ -80,6 +83,24 @@ impl MemDisk {
         self.short
     }
 
+    /// A disk with what a crash may have left of this one after so many changing calls, or after
+    /// all that it remembers, where they are fewer.
+    pub fn image(&self, moment: u64, pick: Pick) -> Result<MemDisk, AllocError>
+        ensures picked { IfOk result (λ disk. disk ≡ made (picked pick self.now.first
+            (take (min moment (length self.now.changes)) self.now.changes)) []) }
+        ensures left { IfOk result (λ disk.
+            left_at self.now (min moment (length self.now.changes)) disk.bytes) }
+    {
+        let count = (moment as usize).min(self.changes.len());
+        let mut seen = self.first.as_slice().to_vec(self.alloc)?;
+        let mut left = self.first.as_slice().to_vec(self.alloc)?;
+        for change in &self.changes[..count] {
+            pick_on(self.alloc, pick, change, &seen, &mut left)?;
+            read_on(change, &mut seen)?;
+        }
+        MemDisk::of(self.alloc, &left, &[])
+    }
+
     // Whether the next changing call is one of those that fail.
     fn is_to_fail(&self) -> bool
         ensures fails { result ≡ is_to_fail self.now }
@@ -91,7 +112,8 @@ impl MemDisk {
 
     // Counts a changing call that fails, and remembers it where there is memory.
     fn fail(&mut self, change: Change) -> Failed
-        requires { IsFailed change }
+        requires failed { IsFailed change }
+        requires within { IsWithin change self.old.bytes }
         ensures new { FailsWith change self.old self.new }
         ensures calls { self.new.calls ≡ next_count self.old.calls }
         ensures was_sound { IsSound self.old }
@@ -165,7 +187,7 @@ impl Disk for MemDisk {
     ghost use Rattle.hs_disk.specs.Disk.{Cut, Fills, Follows, AddsNone, Only};
     ghost use Rattle.hs_disk.specs.Held.{carried_out, next_count, FailsWith, is_to_fail};
     ghost use Rattle.hs_disk.specs.Writes.{Writes};
-    ghost use Rattle.hs_disk.specs.Sound.{IsSound, images, left_since};
+    ghost use Rattle.hs_disk.specs.Sound.{IsSound, images, left_at};
     ghost use Rattle.hs_disk.specs.Sound as sound;
 
     ghost tells = { Unit {0} };
@@ -176,13 +198,15 @@ impl Disk for MemDisk {
 
     ghost moment = { λ d. length d.changes };
 
-    ghost left_since = { left_since };
+    ghost left_at = { left_at };
 
     ghost fault_count = { λ d. d.faults };
 
     ghost calls = { λ d. d.calls };
 
-    ghost counts_now = { λ d t image told le now. sound.counts_now d.first d.changes t image le now };
+    ghost which = { λ d. 0 };
+
+    ghost counts_now = { λ d image told now. sound.counts_now d.first d.changes image now };
 
     ghost only_now = { λ d image told left. sound.only_now d.first d.changes image left };
 
@@ -280,16 +304,4 @@ impl Disk for MemDisk {
             Err(AllocError) => Err(self.run_short()),
         }
     }
-}
-
-// Writes over what is there, and past the end.
-fn overwrite(bytes: &mut Vec<u8>, at: usize, new: &[u8]) -> Result<(), AllocError>
-    requires { at ≤ length bytes.old.items }
-    ensures ok { OnOk result (bytes.new.items ≡ written at new.now bytes.old.items) }
-    ensures err { OnErr result (bytes.new.items ≡ bytes.old.items) }
-{
-    let inside = new.len().min(bytes.len() - at);
-    bytes.extend_from_slice(&new[inside..])?;
-    bytes[at..at + inside].copy_from_slice(&new[..inside]);
-    Ok(())
 }

@@ -1,6 +1,6 @@
 //! What no clause says: that calls succeed, what a file of the system keeps, and what becomes of
 //! one that does little a call or fails.
-use crate::{Disk, Failed, FileDisk, HostFile, MemDisk};
+use crate::{Disk, Failed, FileDisk, HostFile, MemDisk, Pick};
 use std::io::ErrorKind;
 use std::test::Fail;
 use std::{fs, io};
@@ -92,6 +92,16 @@ fn a_disk_in_memory_does_what_it_is_asked(rt: HostRuntime) -> Result<(), Fail> {
     assert_eq!(rt; disk.bytes(), b"xy12".as_slice());
     assert_eq!(rt; (disk.changing_calls(), disk.faults()), (4, 1));
     assert!(rt; !disk.short());
+    for (moment, pick, bytes) in [
+        (0, Pick::Ones, b"abc".as_slice()),
+        (2, Pick::Kept, b"abc"),
+        (2, Pick::Written, b"xy123"),
+        (2, Pick::Ones, b"\x01\x01\x01\x01\x01"),
+        (9, Pick::Ones, b"\x01\x01\x01\x01"),
+    ] {
+        let left = disk.image(moment, pick)?;
+        assert_eq!(rt; left.bytes(), bytes, "{moment} {pick:?}");
+    }
     Ok(())
 }
 

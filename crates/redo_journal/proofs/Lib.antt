@@ -1,10 +1,11 @@
+mod AppendLemmas
 mod CallLemmas
 mod FreeLemmas
 mod GateLemmas
 mod HeaderLemmas
 mod ImageLemmas
 mod MakeLemmas
-mod Moments
+pub mod Moments
 mod OpenLemmas
 mod ReadingLaws
 mod RecordLemmas

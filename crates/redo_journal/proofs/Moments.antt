@@ -1,7 +1,8 @@
 -- How a run of calls on a disk goes on.
-use Rattle.std.proofs.Common.{◌≡◌, inl, inr, ⊎_elim, ℕ, List, sym, subst, arith, Result, Ok, Err}
+use Rattle.std.proofs.Common.{◌≡◌, inl, inr, ℕ, List, sym, subst, arith, Result, Ok, Err}
 use Rattle.std.specs.Prelude.{OnOk, OnErr}
-use Rattle.hs_disk.specs.Disk.{Follows, AddsNone, Only, Elapses, LeavesOnly}
+use Rattle.std.proofs.lemmas.Bool.{cases_lt}
+use Rattle.hs_disk.specs.Disk.{Follows, AddsNone, AllImages, Only, Elapses, LeavesOnly}
 use Rattle.redo_journal.specs.Gates.{Throughout}
 
 pub on_ok : {T E : Type 0} {P : Type 0} (result : Result T E) → P → OnOk result P
@@ -48,56 +49,66 @@ widened P Q seen may_leave into was = record {
   leaves = λ image is. into image (was.leaves image is);
 }
 
-module _ {D : Type 0} (moment : D → ℕ) (left_since : D → ℕ → List ℕ → Type 0) where
+module _ {D : Type 0} (moment : D → ℕ) (left_at : D → ℕ → List ℕ → Type 0) where
   -- before the first call
-  pub started : (old : D) (P may_leave : List ℕ → Type 0) → ((image : List ℕ) → left_since old (moment old) image → may_leave image) → ((image : List ℕ) → may_leave image → P image) → LeavesOnly moment left_since old old P
+  pub started : (old : D) (P may_leave : List ℕ → Type 0) → ((image : List ℕ) → left_at old (moment old) image → may_leave image) → ((image : List ℕ) → may_leave image → P image) → LeavesOnly moment left_at old old P
   started old P may_leave only_now here = record {
     later = omega arith;
-    each = λ image left. here image (only_now image left);
-    before = λ t image le left. inl left;
+    each = λ t image from upto left. here image (only_now image (subst (λ (s : ℕ). left_at old s image) (omega (arith, from, upto)) left));
+    before = λ t image le left. left;
   }
 
   -- one call more
-  pub goes_on : (old mid new : D) (P may_leave : List ℕ → Type 0) → LeavesOnly moment left_since old mid P → Elapses (moment mid) (moment new) (left_since mid) (left_since new) may_leave → ((image : List ℕ) → may_leave image → P image) → LeavesOnly moment left_since old new P
+  pub goes_on : (old mid new : D) (P may_leave : List ℕ → Type 0) → LeavesOnly moment left_at old mid P → Elapses (moment mid) (moment new) (left_at mid) (left_at new) may_leave → ((image : List ℕ) → may_leave image → P image) → LeavesOnly moment left_at old new P
   goes_on old mid new P may_leave so_far time here = record {
     later = omega (arith, so_far.later, time.later);
-    each = λ image left. ⊎_elim (so_far.each image) (here image) (time.nothing_else (moment old) image so_far.later left);
-    before = λ t image le left. ⊎_elim (so_far.before t image le) (λ now. inr (here image now)) (time.nothing_else t image (omega (arith, le, so_far.later)) left);
+    each = λ t image from upto left. elim (cases_lt (moment mid) t) [
+      | inl past ↦ here image (time.nothing_else t image past upto left)
+      | inr within ↦ so_far.each t image from within (time.stays t image within left)
+    ];
+    before = λ t image le left. so_far.before t image le (time.stays t image (omega (arith, le, so_far.later)) left);
   }
 
   -- one run after another
-  pub joined : (old mid new : D) (P : List ℕ → Type 0) → LeavesOnly moment left_since old mid P → LeavesOnly moment left_since mid new P → LeavesOnly moment left_since old new P
+  pub joined : (old mid new : D) (P : List ℕ → Type 0) → LeavesOnly moment left_at old mid P → LeavesOnly moment left_at mid new P → LeavesOnly moment left_at old new P
   joined old mid new P first then = record {
     later = omega (arith, first.later, then.later);
-    each = λ image left. ⊎_elim (first.each image) (λ is. is) (then.before (moment old) image first.later left);
-    before = λ t image le left. ⊎_elim (first.before t image le) (λ is. inr is) (then.before t image (omega (arith, le, first.later)) left);
+    each = λ t image from upto left. elim (cases_lt (moment mid) t) [
+      | inl past ↦ then.each t image (omega (arith, past)) upto left
+      | inr within ↦ first.each t image from within (then.before t image within left)
+    ];
+    before = λ t image le left. first.before t image le (then.before t image (omega (arith, le, first.later)) left);
   }
 
   -- the same of a wider kind
-  pub wider : (old new : D) (P Q : List ℕ → Type 0) → ((image : List ℕ) → P image → Q image) → LeavesOnly moment left_since old new P → LeavesOnly moment left_since old new Q
+  pub wider : (old new : D) (P Q : List ℕ → Type 0) → ((image : List ℕ) → P image → Q image) → LeavesOnly moment left_at old new P → LeavesOnly moment left_at old new Q
   wider old new P Q into run = record {
     later = run.later;
-    each = λ image left. into image (run.each image left);
-    before = λ t image le left. ⊎_elim (λ was. inl was) (λ is. inr (into image is)) (run.before t image le left);
+    each = λ t image from upto left. into image (run.each t image from upto left);
+    before = run.before;
   }
 
-module _ {D : Type 0} (seen : D → List ℕ) (may_leave : D → List ℕ → Type 0) (moment : D → ℕ) (left_since : D → ℕ → List ℕ → Type 0) where
+  -- what all images are after a run
+  pub after_run : (old new : D) (P may_leave : List ℕ → Type 0) → LeavesOnly moment left_at old new P → ((image : List ℕ) → may_leave image → left_at new (moment new) image) → AllImages P may_leave
+  after_run old new P may_leave run counts_now = λ image left. run.each (moment new) image run.later (omega arith) (counts_now image left)
+
+module _ {D : Type 0} (seen : D → List ℕ) (may_leave : D → List ℕ → Type 0) (moment : D → ℕ) (left_at : D → ℕ → List ℕ → Type 0) where
   -- a first call, each of whose images is an earlier one after a step
-  pub first_step : (step : List ℕ → List ℕ → Type 0) (P : List ℕ → Type 0) (old new : D) → ((earlier image : List ℕ) → P earlier → step earlier image → P image) → Throughout P (seen old) (may_leave old) → ((image : List ℕ) → left_since old (moment old) image → may_leave old image) → Follows step (may_leave old) (may_leave new) → may_leave new (seen new) → Elapses (moment old) (moment new) (left_since old) (left_since new) (may_leave new) → LeavesOnly moment left_since old new P × Throughout P (seen new) (may_leave new)
+  pub first_step : (step : List ℕ → List ℕ → Type 0) (P : List ℕ → Type 0) (old new : D) → ((earlier image : List ℕ) → P earlier → step earlier image → P image) → Throughout P (seen old) (may_leave old) → ((image : List ℕ) → left_at old (moment old) image → may_leave old image) → Follows step (may_leave old) (may_leave new) → may_leave new (seen new) → Elapses (moment old) (moment new) (left_at old) (left_at new) (may_leave new) → LeavesOnly moment left_at old new P × Throughout P (seen new) (may_leave new)
   first_step step P old new into was only_now follows reading time =
       let now = stepped step P P (seen old) (may_leave old) (seen new) (may_leave new) into was follows reading in (
-        goes_on moment left_since old old new P (may_leave new) (started moment left_since old P (may_leave old) only_now was.leaves) time now.leaves,
+        goes_on moment left_at old old new P (may_leave new) (started moment left_at old P (may_leave old) only_now was.leaves) time now.leaves,
         now,
       )
 
   -- a next call
-  pub next_step : (step : List ℕ → List ℕ → Type 0) (P : List ℕ → Type 0) (old mid new : D) → ((earlier image : List ℕ) → P earlier → step earlier image → P image) → LeavesOnly moment left_since old mid P → Throughout P (seen mid) (may_leave mid) → Follows step (may_leave mid) (may_leave new) → may_leave new (seen new) → Elapses (moment mid) (moment new) (left_since mid) (left_since new) (may_leave new) → LeavesOnly moment left_since old new P × Throughout P (seen new) (may_leave new)
+  pub next_step : (step : List ℕ → List ℕ → Type 0) (P : List ℕ → Type 0) (old mid new : D) → ((earlier image : List ℕ) → P earlier → step earlier image → P image) → LeavesOnly moment left_at old mid P → Throughout P (seen mid) (may_leave mid) → Follows step (may_leave mid) (may_leave new) → may_leave new (seen new) → Elapses (moment mid) (moment new) (left_at mid) (left_at new) (may_leave new) → LeavesOnly moment left_at old new P × Throughout P (seen new) (may_leave new)
   next_step step P old mid new into so_far was follows reading time =
       let now = stepped step P P (seen mid) (may_leave mid) (seen new) (may_leave new) into was follows reading in
-      (goes_on moment left_since old mid new P (may_leave new) so_far time now.leaves, now)
+      (goes_on moment left_at old mid new P (may_leave new) so_far time now.leaves, now)
 
   -- a next call that adds no image
-  pub next_kept : (P : List ℕ → Type 0) (old mid new : D) → LeavesOnly moment left_since old mid P → Throughout P (seen mid) (may_leave mid) → AddsNone (may_leave mid) (may_leave new) → may_leave new (seen new) → Elapses (moment mid) (moment new) (left_since mid) (left_since new) (may_leave new) → LeavesOnly moment left_since old new P × Throughout P (seen new) (may_leave new)
+  pub next_kept : (P : List ℕ → Type 0) (old mid new : D) → LeavesOnly moment left_at old mid P → Throughout P (seen mid) (may_leave mid) → AddsNone (may_leave mid) (may_leave new) → may_leave new (seen new) → Elapses (moment mid) (moment new) (left_at mid) (left_at new) (may_leave new) → LeavesOnly moment left_at old new P × Throughout P (seen new) (may_leave new)
   next_kept P old mid new so_far was adds_none reading time =
       let now = kept P (seen mid) (may_leave mid) (seen new) (may_leave new) was adds_none reading in
-      (goes_on moment left_since old mid new P (may_leave new) so_far time now.leaves, now)
+      (goes_on moment left_at old mid new P (may_leave new) so_far time now.leaves, now)

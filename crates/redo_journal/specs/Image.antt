@@ -68,10 +68,12 @@ length_of bytes = from_be_bytes w32 (take 4 bytes)
 abbrev pub IsCutShort : List ℕ → Type 0
 IsCutShort rest = length rest ≤ 4 + length_of rest
 
--- behind the first gate, which is open, stands no mark, or the text or the gate that follows lies past the end
+-- behind the first gate, which is open, stands no mark, or the text or the gate that follows lies
+-- past the end
 abbrev pub HasDamagedHeader : List ℕ → Type 0
 HasDamagedHeader [] = ⊥
-HasDamagedHeader (gate ∷ rest) = (gate ≡ 1) × (rest ≢ []) × ((take 8 rest ≢ mark) ⊎ IsCutShort (drop 8 rest))
+HasDamagedHeader (gate ∷ rest) =
+    (gate ≡ 1) × (rest ≢ []) × ((take 8 rest ≢ mark) ⊎ IsCutShort (drop 8 rest))
 
 -- after these whole records, the gate at this place is open and its record isn't whole
 pub record HasDamagedRecord (text : List ℕ) (place : ℕ) (image : List ℕ) : Type 0 where
@@ -85,4 +87,5 @@ pub record HasDamagedRecord (text : List ℕ) (place : ℕ) (image : List ℕ) :
 
 -- the journal is damaged at this gate
 abbrev pub IsDamagedAt : List ℕ → ℕ → List ℕ → Type 0
-IsDamagedAt text place image = ((place ≡ 0) × HasDamagedHeader image) ⊎ HasDamagedRecord text place image
+IsDamagedAt text place image =
+    ((place ≡ 0) × HasDamagedHeader image) ⊎ HasDamagedRecord text place image

@@ -1,3 +1,4 @@
+pub mod Appending
 pub mod Gates
 pub mod Image
 pub mod Inside

@@ -9,4 +9,5 @@ payloads_of = map (λ r. r.payload)
 -- the records with these payloads, the first of them at this place
 abbrev pub placed : ℕ → List (List ℕ) → List Record
 placed place [] = []
-placed place (payload ∷ payloads) = record { place = place; payload = payload } ∷ placed (place + (5 + length payload)) payloads
+placed place (payload ∷ payloads) =
+    record { place = place; payload = payload } ∷ placed (place + (5 + length payload)) payloads

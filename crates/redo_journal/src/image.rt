@@ -10,7 +10,8 @@ use hs_disk::MARK;
 use row_types::ByteText;
 use std::alloc::Global;
 
-// The place behind a text whose length stands at this one, or None where it, or the gate behind it, lies past the end.
+// The place behind a text whose length stands at this one, or None where it, or the gate behind it,
+// lies past the end.
 fn end_of(image: &[u8], at: usize) -> Option<usize>
     requires { at ≤ length image.now }
     ensures { MatchOption result (IsCutShort (drop at image.now))

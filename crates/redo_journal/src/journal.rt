@@ -1,7 +1,7 @@
 //! A journal: where its last gate stands, and the appending of records.
-ghost use Rattle.std.specs.Prelude.{◌≡◌, ◌+◌, ◌-◌, ◌^◌, ◌<◌, ◌⊎◌, ◌++◌, ◌∷◌, [], List, ℕ, true, false, length, OnOk, OnErr};
+ghost use Rattle.std.specs.Prelude.{◌≡◌, ◌+◌, ◌-◌, ◌^◌, ◌<◌, List, ℕ, true, false, length, OnOk, OnErr};
 ghost use Rattle.hs_disk.specs.Cause.{HasCause};
-ghost use Rattle.hs_disk.specs.Disk.{LeavesOnly, calls_after};
+ghost use Rattle.hs_disk.specs.Disk.{calls_after};
 
 use crate::gates::{set_gate, write_behind};
 use crate::refusal::DiskFault;
@@ -33,9 +33,8 @@ impl Model for Journal {
 }
 
 impl Journal {
-    ghost use Rattle.redo_journal.specs.Image.{Journals};
-    ghost use Rattle.redo_journal.specs.Journal.{StandsOn, IsJournalOn, ShowsOld, ShowsOldOrNew};
-    ghost use Rattle.redo_journal.specs.Journal.{append_calls, repair_calls};
+    ghost use Rattle.redo_journal.specs.Journal.{StandsOn, IsJournalOn, append_calls, repair_calls};
+    ghost use Rattle.redo_journal.specs.Appending.{Appends, Repairs};
 
     // A journal whose last gate, at this place, is closed.
     pub(crate) fn at(gate: u64, records: u64) -> Journal
@@ -56,7 +55,8 @@ impl Journal {
         self.records
     }
 
-    /// Whether the last gate is in doubt, after a failure at its write or sync, or in a repair. The next append closes it first.
+    /// Whether the last gate is in doubt, after a failure at its write or sync, or in a repair. The
+    /// next append closes it first.
     pub fn repair_due(&self) -> bool
         ensures { result ≡ self.now.due }
     {
@@ -69,45 +69,21 @@ impl Journal {
         requires counts { self.old.records < 2 ^ 64 - 1 }
         requires stands { D.tells → IsJournalOn self.old (D.seen disk.old) (D.may_leave disk.old) }
 
-        // Whatever text and payloads the journal stands for: a crash at any moment of the call shows them, with or without one more.
-        ensures any_moment { D.tells
+        // Whatever text and payloads the journal stands for.
+        ensures appends { D.tells
             → (text : List ℕ) (payloads : List (List ℕ)) (doubtful : List ℕ)
             → StandsOn text payloads doubtful self.old (D.seen disk.old) (D.may_leave disk.old)
-            → LeavesOnly D.moment D.left_since disk.old disk.new
-            (ShowsOldOrNew text payloads doubtful self.old payload.now) }
-        ensures acknowledged { D.tells
-            → (text : List ℕ) (payloads : List (List ℕ)) (doubtful : List ℕ)
-            → StandsOn text payloads doubtful self.old (D.seen disk.old) (D.may_leave disk.old)
-            → OnOk result (StandsOn text (payloads ++ payload.now ∷ []) payload.now self.new
-            (D.seen disk.new) (D.may_leave disk.new)) }
-        ensures refused { D.tells
-            → (text : List ℕ) (payloads : List (List ℕ)) (doubtful : List ℕ)
-            → StandsOn text payloads doubtful self.old (D.seen disk.old) (D.may_leave disk.old)
-            → OnErr result
-            (StandsOn text payloads doubtful self.new (D.seen disk.new) (D.may_leave disk.new)
-            ⊎ StandsOn text payloads payload.now self.new
-            (D.seen disk.new) (D.may_leave disk.new)) }
-
+            → Appends D.seen D.may_leave D.moment D.left_at text payloads doubtful payload.now
+            self.old self.new disk.old disk.new result }
         ensures stands { D.tells → IsJournalOn self.new (D.seen disk.new) (D.may_leave disk.new) }
-
-        // After Ok every image has the new payload. After a fault each has those from before, or, where a repair is due, the one behind the last gate too.
-        ensures shows_new { D.tells
-            → (text : List ℕ) (payloads : List (List ℕ)) (doubtful : List ℕ)
-            → StandsOn text payloads doubtful self.old (D.seen disk.old) (D.may_leave disk.old)
-            → OnOk result ((image : List ℕ) → D.may_leave disk.new image
-            → Journals text (payloads ++ payload.now ∷ []) image) }
-        ensures shows_old { D.tells
-            → (text : List ℕ) (payloads : List (List ℕ)) (doubtful : List ℕ)
-            → StandsOn text payloads doubtful self.old (D.seen disk.old) (D.may_leave disk.old)
-            → OnErr result ((image : List ℕ) → D.may_leave disk.new image
-            → ShowsOld text payloads doubtful self.new image
-            ⊎ ShowsOld text payloads payload.now self.new image) }
 
         ensures counted { OnOk result
             ((self.new.records ≡ self.old.records + 1) × (self.new.due ≡ false)) }
         ensures uncounted { OnErr result (self.new.records ≡ self.old.records) }
         ensures calls { D.tells → OnOk result
             (D.calls disk.new ≡ calls_after (append_calls self.old) (D.calls disk.old)) }
+        ensures same { D.which disk.new ≡ D.which disk.old }
+        ensures faultless { OnOk result (D.fault_count disk.new ≡ D.fault_count disk.old) }
         ensures cause { HasCause (D.fault_count disk.old) (D.fault_count disk.new) result }
     {
         self.repair(disk)?;
@@ -117,19 +93,17 @@ impl Journal {
     // Closes the gate where it is in doubt.
     fn repair<D: Disk>(&mut self, disk: &mut D) -> Result<(), DiskFault>
         requires { D.tells → IsJournalOn self.old (D.seen disk.old) (D.may_leave disk.old) }
-        ensures any_moment { D.tells
+        ensures repairs { D.tells
             → (text : List ℕ) (payloads : List (List ℕ)) (doubtful : List ℕ)
             → StandsOn text payloads doubtful self.old (D.seen disk.old) (D.may_leave disk.old)
-            → LeavesOnly D.moment D.left_since disk.old disk.new
-            (ShowsOld text payloads doubtful self.old) }
-        ensures stands { D.tells
-            → (text : List ℕ) (payloads : List (List ℕ)) (doubtful : List ℕ)
-            → StandsOn text payloads doubtful self.old (D.seen disk.old) (D.may_leave disk.old)
-            → StandsOn text payloads doubtful self.new (D.seen disk.new) (D.may_leave disk.new) }
+            → Repairs D.seen D.may_leave D.moment D.left_at text payloads doubtful
+            self.old self.new disk.old disk.new }
         ensures ok { OnOk result (self.new ≡ record self.old { due = false }) }
         ensures err { OnErr result (self.new ≡ self.old) }
         ensures calls { D.tells → OnOk result
             (D.calls disk.new ≡ calls_after (repair_calls self.old) (D.calls disk.old)) }
+        ensures same { D.which disk.new ≡ D.which disk.old }
+        ensures faultless { OnOk result (D.fault_count disk.new ≡ D.fault_count disk.old) }
         ensures cause { HasCause (D.fault_count disk.old) (D.fault_count disk.new) result }
     {
         if self.due {
@@ -145,26 +119,18 @@ impl Journal {
         requires counts { self.old.records < 2 ^ 64 - 1 }
         requires quiet { self.old.due ≡ false }
         requires stands { D.tells → IsJournalOn self.old (D.seen disk.old) (D.may_leave disk.old) }
-        ensures any_moment { D.tells
+        ensures appends { D.tells
             → (text : List ℕ) (payloads : List (List ℕ)) (doubtful : List ℕ)
             → StandsOn text payloads doubtful self.old (D.seen disk.old) (D.may_leave disk.old)
-            → LeavesOnly D.moment D.left_since disk.old disk.new
-            (ShowsOldOrNew text payloads doubtful self.old payload.now) }
-        ensures acknowledged { D.tells
-            → (text : List ℕ) (payloads : List (List ℕ)) (doubtful : List ℕ)
-            → StandsOn text payloads doubtful self.old (D.seen disk.old) (D.may_leave disk.old)
-            → OnOk result (StandsOn text (payloads ++ payload.now ∷ []) payload.now self.new
-            (D.seen disk.new) (D.may_leave disk.new)) }
-        ensures refused { D.tells
-            → (text : List ℕ) (payloads : List (List ℕ)) (doubtful : List ℕ)
-            → StandsOn text payloads doubtful self.old (D.seen disk.old) (D.may_leave disk.old)
-            → OnErr result (StandsOn text payloads payload.now self.new
-            (D.seen disk.new) (D.may_leave disk.new)) }
+            → Appends D.seen D.may_leave D.moment D.left_at text payloads doubtful payload.now
+            self.old self.new disk.old disk.new result }
         ensures counted { OnOk result
             ((self.new.records ≡ self.old.records + 1) × (self.new.due ≡ false)) }
         ensures uncounted { OnErr result (self.new.records ≡ self.old.records) }
         ensures calls { D.tells → OnOk result
             (D.calls disk.new ≡ calls_after 4 (D.calls disk.old)) }
+        ensures same { D.which disk.new ≡ D.which disk.old }
+        ensures faultless { OnOk result (D.fault_count disk.new ≡ D.fault_count disk.old) }
         ensures cause { HasCause (D.fault_count disk.old) (D.fault_count disk.new) result }
     {
         let len = (payload.len() as u32).to_be_bytes();

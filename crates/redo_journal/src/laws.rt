@@ -2,7 +2,8 @@
 ghost use Rattle.std.specs.Prelude.{◌≡◌, ◌≤◌, ℕ, List, [], ◌∷◌, ◌++◌, length};
 ghost use Rattle.redo_journal.specs.Image.{Journals, HasOtherText, IsDamagedAt, IsFresh, IsCutShort, front, records_of};
 
-/// The bytes of a journal without records for the empty schema text, and of a record with the payload 7, 8.
+/// The bytes of a journal without records for the empty schema text, and of a record with the
+/// payload 7, 8.
 pub fn worked_examples()
     ensures new_journal { front [] [] ++ 0 ∷ []
         ≡ 1 ∷ 72 ∷ 83 ∷ 74 ∷ 82 ∷ 78 ∷ 76 ∷ 48 ∷ 49 ∷ 0 ∷ 0 ∷ 0 ∷ 0 ∷ 0 ∷ [] }
@@ -16,8 +17,8 @@ pub fn worked_examples()
     ensures open_header { IsFresh (1 ∷ 72 ∷ []) → ⊥ }
 {}
 
-/// An image is fresh, or a journal's with one list of payloads, or another schema's, or damaged at one gate. So the answers of
-/// `open_on` exclude one another.
+/// An image is fresh, or a journal's with one list of payloads, or another schema's, or damaged at
+/// one gate. So the answers of `open_on` exclude one another.
 pub fn an_image_reads_one_way()
     ensures one_list { (text image : List ℕ) (payloads others : List (List ℕ))
         → Journals text payloads image → Journals text others image → payloads ≡ others }
@@ -38,8 +39,8 @@ pub fn an_image_reads_one_way()
         → IsFresh image → IsDamagedAt text place image → ⊥ }
 {}
 
-/// What follows a journal's last gate is free. So an image that goes on, as that of a file which grew ahead by zeros, stands for
-/// the same, unless it was of no byte or one.
+/// What follows a journal's last gate is free. So an image that goes on, as that of a file which
+/// grew ahead by zeros, stands for the same, unless it was of no byte or one.
 pub fn what_follows_is_free()
     ensures journals { (text image more : List ℕ) (payloads : List (List ℕ))
         → Journals text payloads image → Journals text payloads (image ++ more) }

@@ -1,12 +1,16 @@
 //! Records in a file, each on the disk before it is acknowledged.
 //!
-//!     1 | mark | length, schema text | 1 | length, payload | .. | not 1 | anything      (lengths of 4 bytes, highest first)
+//!     1 | mark | length, schema text | 1 | length, payload | .. | not 1 | anything
 //!
-//! A record counts once its gate is 1, and a gate is written last, between two syncs. So a crash at any moment of `append`
-//! leaves the records from before the call, with the new one or without. Where a gate's write or sync fails, that one record
-//! is in doubt, and the next `append` shuts the gate first.
+//! Lengths have four bytes, the highest first.
 //!
-//! `open_on` reads what a crash left: the records, or the damaged gate. What a payload means is left to the crates above.
+//! A record counts once its gate is 1, and a gate is written last, between two syncs. So a crash at
+//! any moment of `append` leaves the records from before the call, with the new one or without.
+//! Where a gate's write or sync fails, that one record is in doubt, and the next `append` shuts the
+//! gate first.
+//!
+//! `open_on` reads what a crash left: the records, or the damaged gate. What a payload means is
+//! left to the crates above.
 #![tactic(auto)]
 
 mod gates;

@@ -1,9 +1,9 @@
 //! The opening of a journal.
-ghost use Rattle.std.specs.Prelude.{◌≡◌, ◌≢◌, ◌^◌, ◌<◌, ◌≤◌, ℕ, List, [], false, length, slice_index, IfOk, IfErr, OnOk, IsErrOf};
-ghost use Rattle.hs_disk.specs.Cause.{Rose};
-ghost use Rattle.hs_disk.specs.Disk.{LeavesOnly};
+ghost use Rattle.std.specs.Prelude.{◌≡◌, ◌≢◌, ◌^◌, ◌<◌, ◌≤◌, ◌++◌, ◌∷◌, ℕ, List, [], false, length, slice_index, IfOk, IfErr, OnOk, IsErrOf};
+ghost use Rattle.hs_disk.specs.Cause.{Rose, next_count};
+ghost use Rattle.hs_disk.specs.Disk.{LeavesOnly, AllImages, calls_after};
 ghost use Rattle.redo_journal.specs.Image.{Journals, IsFresh, StandsFor, front};
-ghost use Rattle.redo_journal.specs.Gates.{Throughout};
+ghost use Rattle.redo_journal.specs.Gates.{Is, Throughout};
 ghost use Rattle.redo_journal.specs.Journal.{StandsOn, IsJournalOn};
 ghost use Rattle.redo_journal.specs.Opening.{Opens, RefusesImage, RefusesLoad, RefusesReading};
 ghost use Rattle.redo_journal.specs.Records.{payloads_of, placed};
@@ -16,7 +16,8 @@ use crate::refusal::Refusal;
 use hs_disk::Disk;
 use std::alloc::Global;
 
-/// Reads the journal on a disk, or makes a new one where nothing was written yet. It begins with a sync.
+/// Reads the journal on a disk, or makes a new one where nothing was written yet. It begins with a
+/// sync. After a failure it may be called again.
 pub fn open_on<D: Disk>(
     alloc: Global,
     disk: &mut D,
@@ -24,7 +25,8 @@ pub fn open_on<D: Disk>(
 ) -> Result<(Journal, Vec<Record>), Refusal>
     requires { length schema_text.now < 2 ^ 32 }
 
-    // What a read gives stands for the payloads that are handed out, and the journal stands behind them.
+    // What a read gives stands for the payloads that are handed out, and the journal stands behind
+    // them.
     ensures reads { D.tells → IfOk result (λ opened.
         StandsFor schema_text.now (payloads_of opened.1.items) (D.seen disk.old)) }
     ensures stands { D.tells → IfOk result (λ opened. StandsOn schema_text.now
@@ -37,21 +39,38 @@ pub fn open_on<D: Disk>(
     ensures quiet { IfOk result (λ opened. opened.0.due ≡ false) }
     ensures refused { D.tells → IfErr result (RefusesImage schema_text.now (D.seen disk.old)) }
 
-    // Whatever a crash may leave before the call stands for, it stands for at each moment of it.
+    // What all images before the call stand for, they stand for at each moment of it and behind it.
     ensures any_moment { D.tells → (payloads : List (List ℕ))
-        → Throughout (StandsFor schema_text.now payloads) (D.seen disk.old) (D.may_leave disk.old)
-        → LeavesOnly D.moment D.left_since disk.old disk.new
+        → AllImages (StandsFor schema_text.now payloads) (D.may_leave disk.old)
+        → LeavesOnly D.moment D.left_at disk.old disk.new
         (StandsFor schema_text.now payloads) }
+    ensures again { D.tells → (payloads : List (List ℕ))
+        → AllImages (StandsFor schema_text.now payloads) (D.may_leave disk.old)
+        → AllImages (StandsFor schema_text.now payloads) (D.may_leave disk.new) }
+    ensures among { D.tells → D.may_leave disk.old (D.seen disk.old) }
 
-    // A disk that something was written to is not touched, whatever the answer.
+    // A new journal has its header and a closed gate, after nine changing calls.
+    ensures made { D.tells → IsFresh (D.seen disk.old)
+        → OnOk result (D.seen disk.new ≡ front schema_text.now [] ++ 0 ∷ []) }
+    ensures making { D.tells → IsFresh (D.seen disk.old)
+        → OnOk result (D.calls disk.new ≡ calls_after 9 (D.calls disk.old)) }
+
+    // A disk that something was written to is synced and not touched, whatever the answer.
     ensures untouched { D.tells → (IsFresh (D.seen disk.old) → ⊥)
         → D.seen disk.new ≡ D.seen disk.old }
     ensures harmless { D.tells → (IsFresh (D.seen disk.old) → ⊥)
-        → LeavesOnly D.moment D.left_since disk.old disk.new (D.may_leave disk.old) }
+        → LeavesOnly D.moment D.left_at disk.old disk.new (D.may_leave disk.old) }
+    ensures reading { D.tells → (IsFresh (D.seen disk.old) → ⊥)
+        → D.calls disk.new ≡ next_count (D.calls disk.old) }
+    ensures same { D.which disk.new ≡ D.which disk.old }
 
+    // A call of the disk failed exactly where that is the answer.
     ensures later { D.fault_count disk.old ≤ D.fault_count disk.new }
     ensures fault { IsErrOf result Refusal.DiskFault
         → Rose (D.fault_count disk.old) (D.fault_count disk.new) }
+    ensures told { IfErr result (λ refusal. refusal ≢ Refusal.DiskFault
+        → D.fault_count disk.new ≡ D.fault_count disk.old) }
+    ensures faultless { OnOk result (D.fault_count disk.new ≡ D.fault_count disk.old) }
 {
     let image = load(alloc, disk)?;
     if is_fresh(&image) {
@@ -66,14 +85,20 @@ fn load<D: Disk>(alloc: Global, disk: &mut D) -> Result<Vec<u8>, Refusal>
     ensures bytes { D.tells → IfOk result (λ image. image.items ≡ D.seen disk.old) }
     ensures bound { IfOk result (λ image. length image.items < 2 ^ 63) }
     ensures seen { D.tells → D.seen disk.new ≡ D.seen disk.old }
-    ensures only { D.tells → OnOk result (Throughout (λ image. image ≡ D.seen disk.old)
+    ensures among { D.tells → D.may_leave disk.old (D.seen disk.old) }
+    ensures only { D.tells → OnOk result (Throughout (Is (D.seen disk.old))
         (D.seen disk.new) (D.may_leave disk.new)) }
-    ensures moments { D.tells → LeavesOnly D.moment D.left_since disk.old disk.new
+    ensures moments { D.tells → LeavesOnly D.moment D.left_at disk.old disk.new
         (D.may_leave disk.old) }
+    ensures calls { D.tells → D.calls disk.new ≡ next_count (D.calls disk.old) }
+    ensures same { D.which disk.new ≡ D.which disk.old }
     ensures err { IfErr result RefusesLoad }
     ensures later { D.fault_count disk.old ≤ D.fault_count disk.new }
     ensures fault { IsErrOf result Refusal.DiskFault
         → Rose (D.fault_count disk.old) (D.fault_count disk.new) }
+    ensures told { IfErr result (λ refusal. refusal ≢ Refusal.DiskFault
+        → D.fault_count disk.new ≡ D.fault_count disk.old) }
+    ensures faultless { OnOk result (D.fault_count disk.new ≡ D.fault_count disk.old) }
 {
     disk.sync()?;
     let len = disk.len()?;

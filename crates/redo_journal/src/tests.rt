@@ -1,11 +1,9 @@
 //! The bytes of a journal, and what it answers where the disk fails or its bytes are altered.
-ghost use Rattle.std.specs.Prelude.{IfOk};
 ghost use Rattle.redo_journal.specs.Journal.{IsJournalOn};
 ghost use Rattle.hs_disk.specs.Sound.{images};
 
-use crate::{Journal, Record, Refusal, open_on};
-use hs_disk::{Disk, FileDisk, MemDisk};
-use std::alloc::Global;
+use crate::{Journal, Refusal, open_on};
+use hs_disk::{Disk, FileDisk, MemDisk, Pick};
 use std::fs;
 use std::test::Fail;
 
@@ -28,13 +26,6 @@ fn put(journal: &mut Journal, disk: &mut MemDisk, payload: &[u8]) -> bool
     journal.append(disk, payload).is_ok()
 }
 
-fn put_in_three_tries(journal: &mut Journal, disk: &mut MemDisk, payload: &[u8]) -> bool
-    requires { IsJournalOn journal.old disk.old.bytes (images disk.old) }
-    ensures { IsJournalOn journal.new disk.new.bytes (images disk.new) }
-{
-    put(journal, disk, payload) || put(journal, disk, payload) || put(journal, disk, payload)
-}
-
 // Whether a record is refused at each try but the last.
 fn refused(tries: u64, journal: &mut Journal, disk: &mut MemDisk) -> bool
     requires { IsJournalOn journal.old disk.old.bytes (images disk.old) }
@@ -44,29 +35,6 @@ fn refused(tries: u64, journal: &mut Journal, disk: &mut MemDisk) -> bool
         return !put(journal, disk, &PAYLOAD) && !put(journal, disk, &PAYLOAD);
     }
     !put(journal, disk, &PAYLOAD)
-}
-
-// Opens a disk at the first try at which it does not fail.
-fn open_in_three_tries(alloc: Global, disk: &mut MemDisk) -> Result<(Journal, Vec<Record>), Refusal>
-    ensures { IfOk result (λ opened. IsJournalOn opened.0 disk.new.bytes (images disk.new)) }
-{
-    match open_on(alloc, disk, &TEXT) {
-        Err(Refusal::DiskFault) => match open_on(alloc, disk, &TEXT) {
-            Err(Refusal::DiskFault) => open_on(alloc, disk, &TEXT),
-            opened => opened,
-        },
-        opened => opened,
-    }
-}
-
-#[test]
-fn a_new_journal_has_fourteen_bytes(rt: HostRuntime) -> Result<(), Fail> {
-    let mut disk = MemDisk::of(rt.alloc(), &[], &[])?;
-    let (journal, records) = open_on(rt.alloc(), &mut disk, &[])?;
-    assert_eq!(rt; disk.bytes(), b"\x01HSJRNL01\0\0\0\0\0".as_slice());
-    assert_eq!(rt; disk.changing_calls(), 9);
-    assert_eq!(rt; (journal.records(), records.len()), (0, 0));
-    Ok(())
 }
 
 #[test]
@@ -89,7 +57,8 @@ fn a_record_stands_behind_its_gate(rt: HostRuntime) -> Result<(), Fail> {
     Ok(())
 }
 
-// The failing calls, at which try the record is appended, whether a repair was due before it, and the calls made in all.
+// The failing calls, at which try the record is appended, whether a repair was due before it, and
+// the calls made in all.
 #[test]
 fn a_failed_append_is_tried_again(rt: HostRuntime) -> Result<(), Fail> {
     for (fail_at, tries, due, calls) in [
@@ -113,36 +82,35 @@ fn a_failed_append_is_tried_again(rt: HostRuntime) -> Result<(), Fail> {
 }
 
 #[test]
-fn two_failures_lose_and_double_nothing(rt: HostRuntime) -> Result<(), Fail> {
-    for first in 1..31u64 {
-        for second in first..31 {
-            let mut disk = MemDisk::of(rt.alloc(), &[], &[first, second])?;
-            let (mut journal, _) = open_in_three_tries(rt.alloc(), &mut disk)?;
-            assert!(rt; put_in_three_tries(&mut journal, &mut disk, b"one"));
-            assert!(rt; put_in_three_tries(&mut journal, &mut disk, b""));
-            assert!(rt; put_in_three_tries(&mut journal, &mut disk, b"three"));
-            let (again, records) = open_in_three_tries(rt.alloc(), &mut disk)?;
-            assert_eq!(rt; again.records(), 3, "{first} and {second}");
-            assert_eq!(rt; records.len(), 3, "{first} and {second}");
-            assert_eq!(rt; records[0].payload.as_slice(), b"one".as_slice());
-            assert_eq!(rt; records[1].payload.as_slice(), b"".as_slice());
-            assert_eq!(rt; records[2].payload.as_slice(), b"three".as_slice());
-        }
+fn a_journal_is_made_at_the_next_opening(rt: HostRuntime) -> Result<(), Fail> {
+    let alloc = rt.alloc();
+    for call in 1..10u64 {
+        let mut disk = MemDisk::of(alloc, &[], &[call])?;
+        let failed = open_on(alloc, &mut disk, &TEXT).err();
+        assert_eq!(rt; failed, Some(Refusal::DiskFault), "{call}");
+        assert_eq!(rt; (disk.changing_calls(), disk.faults()), (call, 1));
+        let (journal, records) = open_on(alloc, &mut disk, &TEXT)?;
+        assert_eq!(rt; (journal.records(), records.len()), (0, 0), "{call}");
+        // Before its last sync, a journal that is made is whole.
+        let more = if call == 9 { 1 } else { 9 };
+        assert_eq!(rt; disk.changing_calls(), call + more);
     }
     Ok(())
 }
 
+// What is left of what waited for a sync, and the moment from which on the record is there.
 #[test]
-fn a_journal_is_not_made_on_a_failing_disk(rt: HostRuntime) -> Result<(), Fail> {
-    for call in 1..10u64 {
-        let mut disk = MemDisk::of(rt.alloc(), &[], &[call])?;
-        assert_eq!(rt;
-            open_on(rt.alloc(), &mut disk, &TEXT).err(),
-            Some(Refusal::DiskFault),
-            "{call}"
-        );
-        assert_eq!(rt; disk.changing_calls(), call);
-        assert_eq!(rt; disk.faults(), 1);
+fn a_crash_leaves_the_record_from_its_gate_on(rt: HostRuntime) -> Result<(), Fail> {
+    let alloc = rt.alloc();
+    let mut disk = MemDisk::of(alloc, &[], &[])?;
+    let (mut journal, _) = open_on(alloc, &mut disk, &TEXT)?;
+    assert!(rt; put(&mut journal, &mut disk, &PAYLOAD));
+    for (pick, first) in [(Pick::Kept, 13), (Pick::Written, 12), (Pick::Ones, 12)] {
+        for moment in 0..14u64 {
+            let mut left = disk.image(moment, pick)?;
+            let (_, records) = open_on(alloc, &mut left, &TEXT)?;
+            assert_eq!(rt; records.len() == 1, moment >= first, "{pick:?} {moment}");
+        }
     }
     Ok(())
 }

@@ -13,7 +13,7 @@ returns-in_err-write_pieces-clause-passes g c tells front place was =
     let disk = g.D.Disk in
     let n = length (c.args.head.now ++ c.args.body.now ++ 0 ∷ []) in
     let into = λ (earlier image : List ℕ) (is : ClosedAfter front earlier) (torn : Torn (c.args.gate + 1) n earlier image). torn_behind front n earlier image is (subst (λ (at : ℕ). Torn (at + 1) n earlier image) place torn) in
-    let wrote = first_step disk.seen disk.may_leave disk.moment disk.left_since (Torn (c.args.gate + 1) n) (ClosedAfter front) c.args.disk.now c.write_pieces.new.self into was (λ image left. g.met.D.Disk.only_now c.args.disk.now image tells left) (c.write_pieces.ensures.crash tells) (c.write_pieces.ensures.reading tells) (c.write_pieces.ensures.time tells) in
+    let wrote = first_step disk.seen disk.may_leave disk.moment disk.left_at (Torn (c.args.gate + 1) n) (ClosedAfter front) c.args.disk.now c.write_pieces.new.self into was (λ image left. g.met.D.Disk.only_now c.args.disk.now image tells left) (c.write_pieces.ensures.crash tells) (c.write_pieces.ensures.reading tells) (c.write_pieces.ensures.time tells) in
     record {
       moments = wrote.0;
       ok = IfOk-from_err c.from_residual.result _ c.from_residual.ensures.0;
@@ -25,8 +25,8 @@ returns-in_err-sync-clause-passes g c tells front place was =
     let disk = g.D.Disk in
     let n = length (c.args.head.now ++ c.args.body.now ++ 0 ∷ []) in
     let into = λ (earlier image : List ℕ) (is : ClosedAfter front earlier) (torn : Torn (c.args.gate + 1) n earlier image). torn_behind front n earlier image is (subst (λ (at : ℕ). Torn (at + 1) n earlier image) place torn) in
-    let wrote = first_step disk.seen disk.may_leave disk.moment disk.left_since (Torn (c.args.gate + 1) n) (ClosedAfter front) c.args.disk.now c.write_pieces.new.self into was (λ image left. g.met.D.Disk.only_now c.args.disk.now image tells left) (c.write_pieces.ensures.crash tells) (c.write_pieces.ensures.reading tells) (c.write_pieces.ensures.time tells) in
-    let kept = next_kept disk.seen disk.may_leave disk.moment disk.left_since (ClosedAfter front) c.args.disk.now c.write_pieces.new.self c.sync.new.self wrote.0 wrote.1 (c.sync.ensures.crash tells) (c.sync.ensures.reading tells) (c.sync.ensures.time tells) in
+    let wrote = first_step disk.seen disk.may_leave disk.moment disk.left_at (Torn (c.args.gate + 1) n) (ClosedAfter front) c.args.disk.now c.write_pieces.new.self into was (λ image left. g.met.D.Disk.only_now c.args.disk.now image tells left) (c.write_pieces.ensures.crash tells) (c.write_pieces.ensures.reading tells) (c.write_pieces.ensures.time tells) in
+    let kept = next_kept disk.seen disk.may_leave disk.moment disk.left_at (ClosedAfter front) c.args.disk.now c.write_pieces.new.self c.sync.new.self wrote.0 wrote.1 (c.sync.ensures.crash tells) (c.sync.ensures.reading tells) (c.sync.ensures.time tells) in
     record {
       moments = kept.0;
       ok = IfOk-from_err c.from_residual-in_err-sync.result _ c.from_residual-in_err-sync.ensures.0;
@@ -38,8 +38,8 @@ returns-clause-passes g c tells front place was =
     let disk = g.D.Disk in
     let n = length (c.args.head.now ++ c.args.body.now ++ 0 ∷ []) in
     let into = λ (earlier image : List ℕ) (is : ClosedAfter front earlier) (torn : Torn (c.args.gate + 1) n earlier image). torn_behind front n earlier image is (subst (λ (at : ℕ). Torn (at + 1) n earlier image) place torn) in
-    let wrote = first_step disk.seen disk.may_leave disk.moment disk.left_since (Torn (c.args.gate + 1) n) (ClosedAfter front) c.args.disk.now c.write_pieces.new.self into was (λ image left. g.met.D.Disk.only_now c.args.disk.now image tells left) (c.write_pieces.ensures.crash tells) (c.write_pieces.ensures.reading tells) (c.write_pieces.ensures.time tells) in
-    let kept = next_kept disk.seen disk.may_leave disk.moment disk.left_since (ClosedAfter front) c.args.disk.now c.write_pieces.new.self c.sync.new.self wrote.0 wrote.1 (c.sync.ensures.crash tells) (c.sync.ensures.reading tells) (c.sync.ensures.time tells) in
+    let wrote = first_step disk.seen disk.may_leave disk.moment disk.left_at (Torn (c.args.gate + 1) n) (ClosedAfter front) c.args.disk.now c.write_pieces.new.self into was (λ image left. g.met.D.Disk.only_now c.args.disk.now image tells left) (c.write_pieces.ensures.crash tells) (c.write_pieces.ensures.reading tells) (c.write_pieces.ensures.time tells) in
+    let kept = next_kept disk.seen disk.may_leave disk.moment disk.left_at (ClosedAfter front) c.args.disk.now c.write_pieces.new.self c.sync.new.self wrote.0 wrote.1 (c.sync.ensures.crash tells) (c.sync.ensures.reading tells) (c.sync.ensures.time tells) in
     let contents = c.args.head.now ++ c.args.body.now in
     let behind : InDoubtAfter front contents (disk.seen c.write_pieces.new.self) = written_behind front contents (disk.seen c.args.disk.now) (disk.seen c.write_pieces.new.self) was.reads (c.in_ok-write_pieces.ensures.written tells ∙ ap (λ (at : ℕ). written (at + 1) (contents ++ 0 ∷ []) (disk.seen c.args.disk.now)) place) in
     record {
