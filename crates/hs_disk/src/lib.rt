@@ -6,7 +6,7 @@
 //! succeeds, a crash leaves what a read gives.
 //!
 //! `Disk` says so by three facts: what a read gives, what a crash now may leave, and what a crash
-//! at some moment since a time may have left. `MemDisk` meets them by replaying the calls that it
+//! at each moment up to now may have left. `MemDisk` meets them by replaying the calls that it
 //! remembers. `FileDisk` is kept in a `HostFile`. Over a file of the system it is the trusted edge,
 //! and tells none; its own calls say what they do to the bytes of a file that tells them.
 #![tactic(auto)]
