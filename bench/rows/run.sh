@@ -5,7 +5,7 @@
 # Needs `rt`, `cc`, and SQLite's header and library. Usage: bench/rows/run.sh [rounds]
 set -euo pipefail
 here=$(cd "$(dirname "$0")" && pwd)
-program=$("$here/../build.sh" rows row_types table_rows find_filter find_scan find_modify)
+program=$("$here/../build.sh" rows row_types request_types table_rows find_filter find_scan find_modify)
 work=$(mktemp -d)
 trap 'rm -rf "$work"' EXIT
 cc -O2 -o "$work/sqlite" "$here/sqlite.c" -lsqlite3
