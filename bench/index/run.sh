@@ -4,12 +4,4 @@
 # Needs `rt` and `rustc`. Usage: bench/index/run.sh [rounds]
 set -euo pipefail
 here=$(cd "$(dirname "$0")" && pwd)
-program=$("$here/../build.sh" index index_tree)
-work=$(mktemp -d)
-trap 'rm -rf "$work"' EXIT
-rustc -O -o "$work/btree" "$here/btree.rs"
-for _ in $(seq "${1:-3}"); do
-    "$program" | sed 's/^/ours /'
-    "$work/btree" | sed 's/^/BTreeMap /'
-done >"$work/lines"
-awk -v count=100000 -f "$here/../ratios.awk" "$work/lines"
+exec "$here/../beside.sh" index btree.rs BTreeMap 100000 "${1:-3}" index_tree
