@@ -16,6 +16,7 @@ use Rattle.row_types.specs.declared.indexes.IndexDef.{IndexDef}
 use Rattle.row_types.specs.declared.tables.TableDef.{TableDef}
 use Rattle.row_types.specs.declared.tables.Schema.{Schema}
 use Rattle.row_types.specs.Fit.{kind_fit}
+use Rattle.row_types.specs.Counted.{both_counted, may_count, is_led}
 
 -- A name is of ASCII letters, digits and `_`.
 abbrev pub is_name_byte : ℕ → Bool
@@ -59,12 +60,13 @@ IsHeld values.Null = Unit {0}
 IsHeld (values.Int n) = FitsSigned w64 n
 IsHeld (values.Text t) = Unit {0}
 
--- NULL is a preset of any column, another value of a column that holds it.
+-- NULL is a preset of any column, another value of a column that holds it; of a counted column NULL alone.
 pub record IsColumn (c : Column) : Type 0 where
   pub name : is_name c.name ≡ true
   pub kind : is_kind c.kind ≡ true
   pub preset : kind_fit c.kind c.preset ≡ Fine
   pub held : IsHeld c.preset
+  pub counts : may_count c ≡ true
 
 -- Whether an index is the primary one.
 abbrev pub is_primary : IndexKind → Bool
@@ -104,20 +106,22 @@ column_size (Bytes most) = most + 4
 abbrev pub most_row_size : List Column → ℕ
 most_row_size columns = 64 + sum_by (λ c. column_size c.kind) columns
 
--- A table has 1 to 64 columns, and room for its greatest row in 16,384 bytes.
+-- A table has 1 to 64 columns, of which one may be counted, and room for its greatest row in 16,384 bytes.
 pub record AreColumns (columns : List Column) : Type 0 where
   pub each : AllByRecursion IsColumn columns
   pub some : 1 ≤ length columns
   pub most : length columns ≤ 64
   pub names : are_distinct same_column columns ≡ true
+  pub once : are_distinct both_counted columns ≡ true
   pub rows : most_row_size columns ≤ 16384
 
--- It has up to 16 indexes, and one of them is primary.
+-- It has up to 16 indexes, and one of them is primary. A counted column leads one.
 pub record AreIndexes (columns : List Column) (indexes : List IndexDef) : Type 0 where
   pub each : AllByRecursion (IsIndex columns) indexes
   pub most : length indexes ≤ 16
   pub names : are_distinct same_index indexes ≡ true
   pub primary : list_any (λ i. is_primary i.kind) indexes ≡ true
+  pub led : is_led columns indexes ≡ true
 
 -- Its name and that of its database are names.
 pub record IsTable (t : TableDef) : Type 0 where

@@ -16,12 +16,13 @@ pub enum Kind {
 }
 
 /// A column of a table. `null` says whether it may hold NULL; an insert that leaves it out puts
-/// `preset` there.
+/// `preset` there. In the column that is `auto` it puts the next number of the table's counter.
 #[derive(Debug, Drop)]
 pub struct Column {
     pub name: ByteText,
     pub kind: Kind,
     pub null: bool,
+    pub auto: bool,
     pub preset: Value,
 }
 
@@ -34,6 +35,7 @@ impl Column {
             name: self.name.copy(alloc)?,
             kind: self.kind,
             null: self.null,
+            auto: self.auto,
             preset: copy_value(alloc, &self.preset)?,
         })
     }

@@ -7,6 +7,8 @@
 //! | `Column`, `IndexDef`, `TableDef`, `Schema` | the shape of tables |
 //! | `List`, `ByteText` | a `Vec` seen as a list by contracts; a type may hold itself in a `List` |
 //!
+//! A table may have one counted column, whose numbers an insert draws where it gives none.
+//!
 //! NULL stands before every integer, an integer before every text; texts go by their bytes. Which
 //! schema is valid, and how one is spelled, is the work of `hs_schema`; how rows are kept, that of
 //! `table_rows`.

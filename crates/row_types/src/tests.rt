@@ -17,6 +17,7 @@ fn some_schema(alloc: Global) -> Result<Schema, AllocError> {
         name: ByteText::of(alloc, b"id")?,
         kind: Kind::Int,
         null: false,
+        auto: false,
         preset: Value::Text(ByteText::of(alloc, b"a")?),
     })?;
     let mut parts = List::new(alloc);
