@@ -11,10 +11,12 @@ use Rattle.row_types.specs.declared.columns.Column.{Column}
 use Rattle.row_types.specs.declared.indexes.IndexKind.{IndexKind}
 use Rattle.row_types.specs.declared.indexes.IndexDef.{IndexDef}
 use Rattle.row_types.specs.declared.tables.TableDef.{TableDef}
+use Rattle.row_types.specs.Counted.{is_led}
 use Rattle.row_types.specs.Valid.{is_name, are_distinct, is_primary, may_be_null, most_row_size}
+use Rattle.hs_schema.specs.declared.nullness.Nullness.{Nullness}
 use Rattle.hs_schema.specs.declared.faults.SchemaRule.{SchemaRule}
 use Rattle.hs_schema.specs.declared.faults.SchemaRule.TheVariants.{BadKind, BadName, DuplicateName, NoPrimary, TooMany}
-use Rattle.hs_schema.specs.Reading.{◌>>=◌, Breach, broken, is_word, text_in, text_at, name_at, known, kind_of, nullness_of, preset_of, preset_in, has_column, column_name_at, column_place, column_at, columns_at, columns_of, parts_of, index_kind_of, suits, fine_parts, index_place, has_index, index_name_at, index_kind_at, index_at, index_follows, indexes_at, has_table, table_name_at, whole_table, table_at}
+use Rattle.hs_schema.specs.Reading.{◌>>=◌, Breach, broken, is_word, text_in, text_at, name_at, known, kind_of, nullness_of, is_counted, can_count, nullness_at, preset_of, preset_in, has_column, column_name_at, column_place, column_at, columns_at, columns_of, parts_of, index_kind_of, suits, fine_parts, index_place, has_index, index_name_at, index_kind_at, index_at, index_follows, indexes_at, has_table, table_name_at, whole_table, table_at}
 use Rattle.hs_schema.proofs.FromLeft.{FailsLeft, ReadsLeft, fails_from, reads_from, bind_fails, bind_reads, bind_last, At, at_ok, at_broken, at_cond, at_bind, at_known, at_text, one_fails, one_reads, none_fails, none_reads, choice_fails, choice_reads, end_is, fails_same, reads_same, agree_taken}
 use Rattle.hs_schema.proofs.Cases.{ok_same}
 
@@ -37,10 +39,17 @@ known_in tell place o = text_in place o >>= λ text. known place (tell text)
 known_one : {A : Type 0} (tell : List ℕ → Option A) (place : ℕ) (o : Option Token) → At place (known_in tell place o)
 known_one tell place o = at_bind place (text_in place o) _ (at_text place o) (λ text. at_known place (tell text))
 
-preset_one : (kind : Kind) (place : ℕ) (o : Option Token) → At place (preset_in kind place o)
-preset_one kind place None = at_broken BadKind place
-preset_one kind place (Some tokens.Null) = at_ok place _
-preset_one kind place (Some (tokens.Text text)) = at_known place (preset_of kind text)
+abbrev nullness_in : List Column → Kind → ℕ → Option Token → Result Nullness Breach
+nullness_in before kind place o = text_in place o >>= λ text. known place (nullness_of text) >>= λ nullness. cond (is_counted nullness && not (can_count before kind)) (broken BadKind place) (Ok nullness)
+
+nullness_one : (before : List Column) (kind : Kind) (place : ℕ) (o : Option Token) → At place (nullness_in before kind place o)
+nullness_one before kind place o = at_bind place (text_in place o) _ (at_text place o) (λ text. at_bind place (known place (nullness_of text)) _ (at_known place (nullness_of text)) (λ nullness. at_cond place (is_counted nullness && not (can_count before kind)) (broken BadKind place) (Ok nullness) (at_broken BadKind place) (at_ok place nullness)))
+
+preset_one : (kind : Kind) (counted : Bool) (place : ℕ) (o : Option Token) → At place (preset_in kind counted place o)
+preset_one kind counted place None = at_broken BadKind place
+preset_one kind counted place (Some tokens.Null) = at_ok place _
+preset_one kind true place (Some (tokens.Text text)) = at_broken BadKind place
+preset_one kind false place (Some (tokens.Text text)) = at_known place (preset_of kind text)
 
 abbrev index_kind_in : List ℕ → ℕ → Option Token → Result IndexKind Breach
 index_kind_in name place o = text_in place o >>= λ text. known place (index_kind_of text) >>= λ kind. cond (suits kind name) (Ok kind) (broken BadName place)
@@ -58,26 +67,26 @@ parts_one columns kind place parts =
 
 -- the tokens of a column
 column_fails : (before : List Column) → FailsLeft (column_place before + 1) (column_at before)
-unfolding column_at column_name_at name_at
+unfolding column_at column_name_at name_at nullness_at
 column_fails before =
     let p = column_place before in
     bind_fails (p + 1) (λ name. p + 2) (λ name. p + 1 + 1) (λ line. new_name_in (has_column before) (p + 1) (slice_get line (p + 1))) _ (one_fails (p + 1) (new_name_in (has_column before) (p + 1)) (new_name_one (has_column before) (p + 1))) (one_reads (p + 1) (p + 1) (new_name_in (has_column before) (p + 1)) (omega arith))
     (λ name. bind_fails (p + 2) (λ kind. p + 3) (λ kind. p + 2 + 1) (λ line. known_in kind_of (p + 2) (slice_get line (p + 2))) _ (one_fails (p + 2) (known_in kind_of (p + 2)) (known_one kind_of (p + 2))) (one_reads (p + 2) (p + 2) (known_in kind_of (p + 2)) (omega arith))
-    (λ kind. bind_fails (p + 3) (λ null. p + 4) (λ null. p + 3 + 1) (λ line. known_in nullness_of (p + 3) (slice_get line (p + 3))) _ (one_fails (p + 3) (known_in nullness_of (p + 3)) (known_one nullness_of (p + 3))) (one_reads (p + 3) (p + 3) (known_in nullness_of (p + 3)) (omega arith))
-    (λ null. bind_fails (p + 4) (λ preset. p + 4) (λ preset. p + 4 + 1) (λ line. preset_in kind (p + 4) (slice_get line (p + 4))) _ (one_fails (p + 4) (preset_in kind (p + 4)) (preset_one kind (p + 4))) (one_reads (p + 4) (p + 4) (preset_in kind (p + 4)) (omega arith))
+    (λ kind. bind_fails (p + 3) (λ null. p + 4) (λ null. p + 3 + 1) (λ line. nullness_in before kind (p + 3) (slice_get line (p + 3))) _ (one_fails (p + 3) (nullness_in before kind (p + 3)) (nullness_one before kind (p + 3))) (one_reads (p + 3) (p + 3) (nullness_in before kind (p + 3)) (omega arith))
+    (λ null. bind_fails (p + 4) (λ preset. p + 4) (λ preset. p + 4 + 1) (λ line. preset_in kind (is_counted null) (p + 4) (slice_get line (p + 4))) _ (one_fails (p + 4) (preset_in kind (is_counted null) (p + 4)) (preset_one kind (is_counted null) (p + 4))) (one_reads (p + 4) (p + 4) (preset_in kind (is_counted null) (p + 4)) (omega arith))
     (λ preset. none_fails (p + 4) _ (at_ok (p + 4) _)) (λ preset. omega arith) (λ preset. omega arith))
     (λ null. omega arith) (λ null. omega arith))
     (λ kind. omega arith) (λ kind. omega arith))
     (λ name. omega arith) (λ name. omega arith)
 
 column_reads : (before : List Column) → ReadsLeft (column_place before + 1) (λ c. column_place before + 5) (column_at before)
-unfolding column_at column_name_at name_at
+unfolding column_at column_name_at name_at nullness_at
 column_reads before =
     let p = column_place before in
     bind_reads (p + 1) (λ name. p + 1 + 1) (λ c. p + 5) (λ line. new_name_in (has_column before) (p + 1) (slice_get line (p + 1))) _ (one_reads (p + 1) (p + 1) (new_name_in (has_column before) (p + 1)) (omega arith))
     (λ name. bind_reads (p + 1 + 1) (λ kind. p + 2 + 1) (λ c. p + 5) (λ line. known_in kind_of (p + 2) (slice_get line (p + 2))) _ (one_reads (p + 1 + 1) (p + 2) (known_in kind_of (p + 2)) (omega arith))
-    (λ kind. bind_reads (p + 2 + 1) (λ null. p + 3 + 1) (λ c. p + 5) (λ line. known_in nullness_of (p + 3) (slice_get line (p + 3))) _ (one_reads (p + 2 + 1) (p + 3) (known_in nullness_of (p + 3)) (omega arith))
-    (λ null. bind_reads (p + 3 + 1) (λ preset. p + 4 + 1) (λ c. p + 5) (λ line. preset_in kind (p + 4) (slice_get line (p + 4))) _ (one_reads (p + 3 + 1) (p + 4) (preset_in kind (p + 4)) (omega arith))
+    (λ kind. bind_reads (p + 2 + 1) (λ null. p + 3 + 1) (λ c. p + 5) (λ line. nullness_in before kind (p + 3) (slice_get line (p + 3))) _ (one_reads (p + 2 + 1) (p + 3) (nullness_in before kind (p + 3)) (omega arith))
+    (λ null. bind_reads (p + 3 + 1) (λ preset. p + 4 + 1) (λ c. p + 5) (λ line. preset_in kind (is_counted null) (p + 4) (slice_get line (p + 4))) _ (one_reads (p + 3 + 1) (p + 4) (preset_in kind (is_counted null) (p + 4)) (omega arith))
     (λ preset. none_reads (p + 4 + 1) (λ c. p + 5) _ (λ c e. omega arith)))))
 
 -- where the columns end
@@ -187,7 +196,7 @@ start_one : (tables : List TableDef) (o : Option Token) → At 0 (start_in table
 start_one tables o = at_cond 0 (not (is_word (codes "table") o)) _ _ (at_broken BadKind 0) (at_cond 0 (leb 64 (length tables)) _ _ (at_broken TooMany 0) (at_ok 0 tt))
 
 whole_end : (t : TableDef) (place : ℕ) → At place (whole_table t place)
-whole_end t place = at_cond place (not (list_any (λ i. is_primary i.kind) t.indexes)) _ _ (at_broken NoPrimary place) (at_cond place (nat_lt 16384 (most_row_size t.columns)) _ _ (at_broken TooMany place) (at_ok place t))
+whole_end t place = at_cond place (not (list_any (λ i. is_primary i.kind) t.indexes)) _ _ (at_broken NoPrimary place) (at_cond place (nat_lt 16384 (most_row_size t.columns)) _ _ (at_broken TooMany place) (at_cond place (not (is_led t.columns t.indexes)) _ _ (at_broken BadKind place) (at_ok place t)))
 
 table_fails : (tables : List TableDef) → FailsLeft 0 (table_at tables)
 unfolding table_at table_name_at name_at

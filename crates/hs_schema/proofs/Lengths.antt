@@ -79,9 +79,10 @@ kind_length (kinds.Bytes most) kind =
     let few = most_length most kind in
     omega (arith, length-append (codes "bytes:") (decimal most), length-decimal-le 5 most (omega arith) (omega (arith, few)) (omega (arith, few)))
 
-nullness_length : (null : Bool) → length (nullness_text null) ≤ 4
-nullness_length true = omega arith
-nullness_length false = omega arith
+nullness_length : (auto null : Bool) → length (nullness_text auto null) ≤ 4
+nullness_length true null = omega arith
+nullness_length false true = omega arith
+nullness_length false false = omega arith
 
 number_length : (n : ℤ) → FitsSigned w64 n → length (signed_decimal n) ≤ 20
 number_length (pos n) held = omega (arith, length-decimal-le 19 n (omega arith) (omega (arith, held)) (omega (arith, held)))
@@ -101,7 +102,7 @@ preset_weight (kinds.Bytes most) (values.Text t) fine fit held =
 
 column_weight : (c : Column) → IsColumn c → weights (column_tokens c) ≤ 33000
 column_weight c is =
-    omega (arith, name_length c.name is.name, kind_length c.kind is.kind, nullness_length c.null, preset_weight c.kind c.preset is.kind is.preset is.held)
+    omega (arith, name_length c.name is.name, kind_length c.kind is.kind, nullness_length c.auto c.null, preset_weight c.kind c.preset is.kind is.preset is.held)
 
 columns_weight : (cs : List Column) → AllByRecursion IsColumn cs → weights (flat_map column_tokens cs) ≤ 33000 * length cs
 columns_weight [] all = omega arith

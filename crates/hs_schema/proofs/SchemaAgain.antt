@@ -33,7 +33,7 @@ columns_read t is =
     let line = table_tokens t in
     let rest = flat_map (index_tokens t.columns) t.indexes in
     let first : is_word (codes "c") (slice_get line 3) ≡ true = first_column t.columns rest is.columns.some in
-    rw first (columns_again 64 [] t.columns line rest refl (no_column t.columns t.indexes) is.columns.most is.columns.each is.columns.names) where
+    rw first (columns_again 64 [] t.columns line rest refl (no_column t.columns t.indexes) is.columns.most is.columns.each is.columns.names is.columns.once) where
       first_column : (cs : List Column) (rest : List Token) → 1 ≤ length cs → is_word (codes "c") (slice_get (flat_map column_tokens cs ++ rest) 0) ≡ true
       first_column [] rest some = absurd (omega arith)
       first_column (c ∷ cs) rest some = refl
@@ -55,7 +55,7 @@ pub table_again : (before : List TableDef) (t : TableDef) → IsTable t → leng
 unfolding table_at table_name_at name_at
 table_again before t is room new =
     let rows : ltb 16384 (most_row_size t.columns) ≡ false = le-ltb 16384 (most_row_size t.columns) is.columns.rows in
-    rw (lt-leb 64 (length before) room, is.db, is.name, new, columns_read t is, indexes_read t is, is.indexes.primary, rows) refl
+    rw (lt-leb 64 (length before) room, is.db, is.name, new, columns_read t is, indexes_read t is, is.indexes.primary, rows, is.indexes.led) refl
 
 is_line : (bytes : List ℕ) → AllByRecursion (λ b. b ≢ 10) bytes → IsLine bytes
 is_line [] none = refl

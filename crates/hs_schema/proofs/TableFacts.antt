@@ -10,6 +10,7 @@ use Rattle.row_types.specs.declared.columns.Column.{Column}
 use Rattle.row_types.specs.declared.indexes.IndexKind.{IndexKind}
 use Rattle.row_types.specs.declared.indexes.IndexDef.{IndexDef}
 use Rattle.row_types.specs.declared.tables.TableDef.{TableDef}
+use Rattle.row_types.specs.Counted.{is_led}
 use Rattle.row_types.specs.Valid.{is_name, are_distinct, same_index, same_table, is_primary, primary_name, may_be_null, most_row_size, IsIndex, IsTable, IsValid}
 use Rattle.hs_schema.specs.declared.faults.SchemaRule.TheVariants.{BadKind, TooMany}
 use Rattle.hs_schema.specs.Reading.{◌>>=◌, broken, is_word, text_at, name_at, known, names_from, place_of, parts_of, index_kind_of, suits, fine_parts, index_place, has_index, index_name_at, index_kind_at, index_at, indexes_at, columns_of, start_at, has_table, table_name_at, whole_table, table_at}
@@ -139,11 +140,12 @@ room_left tables line started e =
     let room = guard_ok (leb 64 (length tables)) _ _ started word.1 in
     leb-false 64 (length tables) room.0
 
-whole_ok : (t whole : TableDef) (end : ℕ) → whole_table t end ≡ Ok whole → (list_any (λ i. is_primary i.kind) t.indexes ≡ true) × (most_row_size t.columns ≤ 16384) × (t ≡ whole)
+whole_ok : (t whole : TableDef) (end : ℕ) → whole_table t end ≡ Ok whole → (list_any (λ i. is_primary i.kind) t.indexes ≡ true) × (most_row_size t.columns ≤ 16384) × (is_led t.columns t.indexes ≡ true) × (t ≡ whole)
 whole_ok t whole end e =
     let p = guard_ok (not (list_any (λ i. is_primary i.kind) t.indexes)) _ _ whole e in
     let r = guard_ok (ltb 16384 (most_row_size t.columns)) _ _ whole p.1 in
-    (not_false (list_any (λ i. is_primary i.kind) t.indexes) p.0, ltb-false 16384 (most_row_size t.columns) r.0, ok_same t whole r.1)
+    let l = guard_ok (not (is_led t.columns t.indexes)) _ _ whole r.1 in
+    (not_false (list_any (λ i. is_primary i.kind) t.indexes) p.0, ltb-false 16384 (most_row_size t.columns) r.0, not_false (is_led t.columns t.indexes) l.0, ok_same t whole l.1)
 
 pub table_ok : (tables : List TableDef) (line : List Token) (t : TableDef) → table_at tables line ≡ Ok t → IsTable t × (has_table tables t.db t.name ≡ false) × (length tables < 64)
 unfolding table_at
@@ -157,12 +159,12 @@ table_ok tables line t e =
     let columns = columns_of_ok line c.0 c.1 in
     let indexes = indexes_ok 16 c.0 [] line i.0 (omega arith) (record { each = tt; distinct = refl; most = omega arith }) i.1 in
     let whole = whole_ok _ t (length line) i.2 in
-    subst (λ t. IsTable t × (has_table tables t.db t.name ≡ false) × (length tables < 64)) whole.2 (
+    subst (λ t. IsTable t × (has_table tables t.db t.name ≡ false) × (length tables < 64)) whole.3 (
       record {
         db = name_ok line 1 d.0 d.1;
         name = name.0;
-        columns = record { each = columns.0.each; some = columns.1; most = columns.0.most; names = columns.0.distinct; rows = whole.1 };
-        indexes = record { each = indexes.each; most = indexes.most; names = indexes.distinct; primary = whole.0 };
+        columns = record { each = columns.0.each; some = columns.1; most = columns.0.most; names = columns.0.distinct; once = columns.0.once; rows = whole.1 };
+        indexes = record { each = indexes.each; most = indexes.most; names = indexes.distinct; primary = whole.0; led = whole.2 };
       },
       name.1,
       room_left tables line s.0 s.1,

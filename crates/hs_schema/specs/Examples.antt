@@ -38,9 +38,9 @@ people_line = people_start ++ people_columns ++ people_indexes
 -- An integer that forbids NULL, a text of up to 32 bytes, and an integer that is 0 where it is left out.
 abbrev pub people_shape : List Column
 people_shape =
-    record { name = codes "id"; kind = Int; null = false; preset = values.Null }
-    ∷ record { name = codes "name"; kind = Bytes 32; null = true; preset = values.Null }
-    ∷ record { name = codes "n"; kind = Int; null = false; preset = values.Int (pos 0) } ∷ []
+    record { name = codes "id"; kind = Int; null = false; auto = false; preset = values.Null }
+    ∷ record { name = codes "name"; kind = Bytes 32; null = true; auto = false; preset = values.Null }
+    ∷ record { name = codes "n"; kind = Int; null = false; auto = false; preset = values.Int (pos 0) } ∷ []
 
 -- The id is the primary key, and names are unique.
 abbrev pub people_keys : List IndexDef
@@ -52,3 +52,28 @@ people_keys =
 -- The table that the line says.
 abbrev pub people : TableDef
 people = record { db = codes "test"; name = codes "t"; columns = people_shape; indexes = people_keys }
+
+-- c id int auto NULL c v int null NULL
+abbrev pub numbered_columns : List Token
+numbered_columns =
+    word (codes "c") ∷ word (codes "id") ∷ word (codes "int") ∷ word (codes "auto") ∷ tokens.Null
+    ∷ word (codes "c") ∷ word (codes "v") ∷ word (codes "int") ∷ word (codes "null") ∷ tokens.Null ∷ []
+
+-- i PRIMARY primary and a column
+abbrev pub keyed_by : List ℕ → List Token
+keyed_by name = word (codes "i") ∷ word (codes "PRIMARY") ∷ word (codes "primary") ∷ word name ∷ []
+
+-- A column of integers.
+abbrev pub integers : List ℕ → List ℕ → Token → List Token
+integers name nullness preset = word (codes "c") ∷ word name ∷ word (codes "int") ∷ word nullness ∷ preset ∷ []
+
+-- A table whose id is counted, and an integer that may be NULL.
+abbrev pub numbered : TableDef
+numbered = record {
+  db = codes "test";
+  name = codes "t";
+  columns =
+      record { name = codes "id"; kind = Int; null = false; auto = true; preset = values.Null }
+      ∷ record { name = codes "v"; kind = Int; null = true; auto = false; preset = values.Null } ∷ [];
+  indexes = record { name = codes "PRIMARY"; kind = Primary; parts = 0 ∷ [] } ∷ [];
+}

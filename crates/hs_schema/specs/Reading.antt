@@ -14,7 +14,10 @@ use Rattle.row_types.specs.declared.indexes.IndexKind.{IndexKind}
 use Rattle.row_types.specs.declared.indexes.IndexKind.TheVariants.{Primary, Unique, Plain}
 use Rattle.row_types.specs.declared.indexes.IndexDef.{IndexDef}
 use Rattle.row_types.specs.declared.tables.TableDef.{TableDef}
+use Rattle.row_types.specs.Counted.{has_counted, is_led}
 use Rattle.row_types.specs.Valid.{is_name, are_distinct, same_but_case, is_kind, is_primary, primary_name, may_be_null, most_row_size}
+use Rattle.hs_schema.specs.declared.nullness.Nullness.{Nullness}
+use Rattle.hs_schema.specs.declared.nullness.Nullness.TheVariants.{Allowed, Forbidden, Counted}
 use Rattle.hs_schema.specs.declared.faults.SchemaRule.{SchemaRule}
 use Rattle.hs_schema.specs.declared.faults.SchemaRule.TheVariants.{BadName, BadKind, DuplicateName, NoPrimary, TooMany}
 use Rattle.hs_schema.specs.declared.faults.LineFault.{LineFault}
@@ -79,27 +82,49 @@ kind_of text =
 abbrev pub kind_at : List Token → ℕ → Result Kind Breach
 kind_at line place = text_at line place >>= λ text. known place (kind_of text)
 
--- Whether NULL is allowed: `null` or `not`.
-abbrev pub nullness_of : List ℕ → Option Bool
+-- Whether NULL is allowed, or forbidden, or numbers are drawn: `null`, `not` or `auto`.
+abbrev pub nullness_of : List ℕ → Option Nullness
 nullness_of text =
-    if bytes_eq text (codes "null") then Some true
-    else if bytes_eq text (codes "not") then Some false
+    if bytes_eq text (codes "null") then Some Allowed
+    else if bytes_eq text (codes "not") then Some Forbidden
+    else if bytes_eq text (codes "auto") then Some Counted
     else None
 
--- The nullness that a text says.
-abbrev pub nullness_at : List Token → ℕ → Result Bool Breach
-nullness_at line place = text_at line place >>= λ text. known place (nullness_of text)
+-- Whether a column allows NULL.
+abbrev pub allows_null : Nullness → Bool
+allows_null Allowed = true
+allows_null Forbidden = false
+allows_null Counted = false
+
+-- Whether it is counted.
+abbrev pub is_counted : Nullness → Bool
+is_counted Allowed = false
+is_counted Forbidden = false
+is_counted Counted = true
+
+-- A column of integers may be counted where none before it is.
+abbrev pub can_count : List Column → Kind → Bool
+can_count before kinds.Int = not (has_counted before)
+can_count before (kinds.Bytes most) = false
+
+-- The nullness that a text says, for a column of this kind behind those before.
+unfoldable pub nullness_at : List Column → Kind → List Token → ℕ → Result Nullness Breach
+nullness_at before kind line place = do
+  text ← text_at line place
+  nullness ← known place (nullness_of text)
+  if is_counted nullness && not (can_count before kind) then broken BadKind place else Ok nullness
 
 -- The preset that a text is, where the column holds it.
 abbrev pub preset_of : Kind → List ℕ → Option Value
 preset_of kinds.Int text = option_map values.Int (i64_of text)
 preset_of (kinds.Bytes most) text = if nat_lt most (length text) then None else Some (values.Text text)
 
--- A preset is the NULL token or the value as a text.
-abbrev pub preset_in : Kind → ℕ → Option Token → Result Value Breach
-preset_in kind place None = broken BadKind place
-preset_in kind place (Some tokens.Null) = Ok values.Null
-preset_in kind place (Some (tokens.Text text)) = known place (preset_of kind text)
+-- A preset is the NULL token or the value as a text. A counted column has no other than NULL.
+abbrev pub preset_in : Kind → Bool → ℕ → Option Token → Result Value Breach
+preset_in kind counted place None = broken BadKind place
+preset_in kind counted place (Some tokens.Null) = Ok values.Null
+preset_in kind true place (Some (tokens.Text text)) = broken BadKind place
+preset_in kind false place (Some (tokens.Text text)) = known place (preset_of kind text)
 
 -- Whether a column is so named, whatever the case.
 abbrev pub has_column : List Column → List ℕ → Bool
@@ -120,9 +145,9 @@ unfoldable pub column_at : List Column → List Token → Result Column Breach
 column_at before line = do
   name ← column_name_at before line (column_place before + 1)
   kind ← kind_at line (column_place before + 2)
-  null ← nullness_at line (column_place before + 3)
-  preset ← preset_in kind (column_place before + 4) (slice_get line (column_place before + 4))
-  Ok (record { name = name; kind = kind; null = null; preset = preset })
+  nullness ← nullness_at before kind line (column_place before + 3)
+  preset ← preset_in kind (is_counted nullness) (column_place before + 4) (slice_get line (column_place before + 4))
+  Ok (record { name = name; kind = kind; null = allows_null nullness; auto = is_counted nullness; preset = preset })
 
 -- Whether one more column follows.
 abbrev pub column_follows : List Column → List Token → Bool
@@ -238,11 +263,12 @@ table_name_at tables db line = do
   name ← name_at line 2
   if has_table tables db name then broken DuplicateName 2 else Ok name
 
--- At a line's end one index is the primary one, and the greatest row has room.
+-- At a line's end one index is the primary one, the greatest row has room, and a counted column leads an index.
 abbrev pub whole_table : TableDef → ℕ → Result TableDef Breach
 whole_table table end =
     if not (list_any (λ i. is_primary i.kind) table.indexes) then broken NoPrimary end
     else if nat_lt 16384 (most_row_size table.columns) then broken TooMany end
+    else if not (is_led table.columns table.indexes) then broken BadKind end
     else Ok table
 
 -- The table of a line that stands behind these tables.

@@ -20,10 +20,11 @@ abbrev pub kind_text : Kind → List ℕ
 kind_text Int = codes "int"
 kind_text (Bytes most) = codes "bytes:" ++ decimal most
 
--- Whether NULL is allowed, in a word.
-abbrev pub nullness_text : Bool → List ℕ
-nullness_text true = codes "null"
-nullness_text false = codes "not"
+-- Whether a column is counted, and whether NULL is allowed, in a word.
+abbrev pub nullness_text : Bool → Bool → List ℕ
+nullness_text true null = codes "auto"
+nullness_text false true = codes "null"
+nullness_text false false = codes "not"
 
 -- The kind of an index in a word.
 abbrev pub index_kind_text : IndexKind → List ℕ
@@ -40,7 +41,7 @@ preset_token (values.Text text) = tokens.Text text
 -- A column is `c`, its name, kind, nullness and preset.
 abbrev pub column_tokens : Column → List Token
 column_tokens c =
-    tokens.Text (codes "c") ∷ tokens.Text c.name ∷ tokens.Text (kind_text c.kind) ∷ tokens.Text (nullness_text c.null)
+    tokens.Text (codes "c") ∷ tokens.Text c.name ∷ tokens.Text (kind_text c.kind) ∷ tokens.Text (nullness_text c.auto c.null)
     ∷ preset_token c.preset ∷ []
 
 -- The name of a column, if it is one.

@@ -1,10 +1,12 @@
 //! The columns of a table line.
 ghost use Rattle.std.specs.Prelude.{◌≡◌, ◌+◌, ◌*◌, ◌≤◌, ◌<◌, ◌^◌, length, slice_get, IfOk, [], List};
 ghost use Rattle.row_types.specs.declared.columns.Column.{Column as SeenColumn};
+ghost use Rattle.row_types.specs.Counted.{has_counted};
 ghost use Rattle.row_types.specs.Valid.{is_kind, same_but_case};
-ghost use Rattle.hs_schema.specs.Reading.{Gives, kind_of, sized, kind_at, nullness_at, preset_of, preset_in, has_column, column_name_at, column_place, column_at, columns_of};
+ghost use Rattle.hs_schema.specs.Reading.{Gives, kind_of, sized, kind_at, can_count, nullness_at, preset_of, preset_in, has_column, column_name_at, column_place, column_at, columns_of};
 
 use crate::faults::{LineFault, SchemaRule};
+use crate::nullness::Nullness;
 use crate::tokens::{is_word_at, name_at, text_at};
 use hs_token::{Token, parse_i64, parse_u32};
 use row_types::{ByteText, Column, Kind, Value};
@@ -53,12 +55,13 @@ fn column_at(alloc: Global, before: &[Column], line: &[Token]) -> Result<Column,
     let place = column_place(before);
     let name = column_name_at(before, line, place + 1)?;
     let kind = kind_at(line, place + 2)?;
-    let null = nullness_at(line, place + 3)?;
-    let preset = preset_at(alloc, kind, line, place + 4)?;
+    let nullness = nullness_at(before, kind, line, place + 3)?;
+    let preset = preset_at(alloc, kind, nullness.is_counted(), line, place + 4)?;
     Ok(Column {
         name: ByteText::of(alloc, name)?,
         kind,
-        null,
+        null: nullness.allows_null(),
+        auto: nullness.is_counted(),
         preset,
     })
 }
@@ -125,29 +128,67 @@ fn sized(most: u32) -> Option<Kind>
     }
 }
 
-fn nullness_at(line: &[Token], place: u32) -> Result<bool, LineFault>
-    ensures { Gives (λ null. null) result (nullness_at line.now place) }
+/// The nullness of a column of this kind behind those before.
+#[tactic(auto, unfolding(crate::specs::Reading::nullness_at))]
+fn nullness_at(
+    before: &[Column],
+    kind: Kind,
+    line: &[Token],
+    place: u32,
+) -> Result<Nullness, LineFault>
+    ensures { Gives (λ nullness. nullness) result (nullness_at before.now kind line.now place) }
 {
     let text = text_at(line, place)?;
-    if text == b"null".as_slice() {
-        Ok(true)
-    } else if text == b"not".as_slice() {
-        Ok(false)
-    } else {
-        Err(LineFault::Broken(SchemaRule::BadKind, place))
+    let nullness = match Nullness::of(text) {
+        Some(nullness) => nullness,
+        None => return Err(LineFault::Broken(SchemaRule::BadKind, place)),
+    };
+    if nullness.is_counted() && !can_count(before, kind) {
+        return Err(LineFault::Broken(SchemaRule::BadKind, place));
+    }
+    Ok(nullness)
+}
+
+/// Whether a column of this kind may be counted.
+fn can_count(before: &[Column], kind: Kind) -> bool
+    ensures { result ≡ can_count before.now kind }
+{
+    match kind {
+        Kind::Int => !has_counted(before),
+        Kind::Bytes(_) => false,
     }
 }
 
-/// The preset at this place, which a column of this kind holds.
-fn preset_at(alloc: Global, kind: Kind, line: &[Token], place: u32) -> Result<Value, LineFault>
-    ensures { Gives (λ preset. preset) result (preset_in kind place (slice_get line.now place)) }
+/// Whether a column is counted.
+pub(crate) fn has_counted(columns: &[Column]) -> bool
+    ensures { result ≡ has_counted columns.now }
+{
+    columns.iter().any(|column| column.auto)
+}
+
+/// The preset at this place, which a column of this kind holds, and which is NULL where it is
+/// counted.
+fn preset_at(
+    alloc: Global,
+    kind: Kind,
+    counted: bool,
+    line: &[Token],
+    place: u32,
+) -> Result<Value, LineFault>
+    ensures { Gives (λ preset. preset) result
+        (preset_in kind counted place (slice_get line.now place)) }
 {
     match line.get(place as usize) {
         Some(Token::Null) => Ok(Value::Null),
-        Some(Token::Text(text)) => match preset_of(alloc, kind, text.as_slice())? {
-            Some(preset) => Ok(preset),
-            None => Err(LineFault::Broken(SchemaRule::BadKind, place)),
-        },
+        Some(Token::Text(text)) => {
+            if counted {
+                return Err(LineFault::Broken(SchemaRule::BadKind, place));
+            }
+            match preset_of(alloc, kind, text.as_slice())? {
+                Some(preset) => Ok(preset),
+                None => Err(LineFault::Broken(SchemaRule::BadKind, place)),
+            }
+        }
         None => Err(LineFault::Broken(SchemaRule::BadKind, place)),
     }
 }

@@ -1,6 +1,7 @@
 //! A schema's text is read again; and table lines written out, with what they say.
 ghost use Rattle.std.specs.Prelude.{◌≡◌, ◌+◌, ◌<◌, ◌^◌, ℕ, take, false, length, List, [], ◌∷◌, ◌++◌, Some, Ok, codes};
 ghost use Rattle.hs_token.specs.declared.tokens.Token.{Token};
+ghost use Rattle.hs_token.specs.declared.tokens.Token.TheVariants as tokens;
 ghost use Rattle.hs_line.specs.Lines.{lines_of};
 ghost use Rattle.row_types.specs.declared.tables.Schema.{Schema};
 ghost use Rattle.row_types.specs.declared.tables.TableDef.{TableDef};
@@ -10,7 +11,7 @@ ghost use Rattle.hs_schema.specs.declared.faults.SchemaRule.TheVariants.{BadKind
 ghost use Rattle.hs_schema.specs.Reading.{broken, has_table, table_at};
 ghost use Rattle.hs_schema.specs.Adding.{with_lines};
 ghost use Rattle.hs_schema.specs.Spelling.{table_tokens, spelled};
-ghost use Rattle.hs_schema.specs.Examples.{word, people_start, people_columns, people_indexes, people_line, people};
+ghost use Rattle.hs_schema.specs.Examples.{word, people_start, people_columns, people_indexes, people_line, people, numbered_columns, numbered, keyed_by, integers};
 
 /// The lines of a valid schema's text, added one after another to no table, give its tables.
 pub fn texts_are_read_again()
@@ -61,4 +62,25 @@ pub fn example_breaches()
     ensures null_and_unknown { table_at [] (people_start ++ people_columns ++ word (codes "i")
         ∷ word (codes "PRIMARY") ∷ word (codes "primary") ∷ word (codes "nobody,name") ∷ [])
         ≡ broken BadKind 21 }
+{}
+
+/// A table with a counted column, and what such a column may not be.
+pub fn example_of_counting()
+    ensures read { table_at [] (people_start ++ numbered_columns ++ keyed_by (codes "id"))
+        ≡ Ok numbered }
+    ensures valid { IsTable numbered }
+    ensures spelled { table_tokens numbered
+        ≡ people_start ++ numbered_columns ++ keyed_by (codes "id") }
+    ensures preset { table_at [] (people_start
+        ++ integers (codes "id") (codes "auto") (word (codes "1")))
+        ≡ broken BadKind 7 }
+    ensures second { table_at [] (people_start ++ numbered_columns
+        ++ integers (codes "w") (codes "auto") tokens.Null) ≡ broken BadKind 16 }
+    ensures of_texts { table_at [] (people_start ++ word (codes "c") ∷ word (codes "id")
+        ∷ word (codes "bytes:9") ∷ word (codes "auto") ∷ []) ≡ broken BadKind 6 }
+    // Neither want of a primary index nor want of room is told after it.
+    ensures leads_none { table_at [] (people_start ++ numbered_columns
+        ++ integers (codes "w") (codes "not") tokens.Null ++ keyed_by (codes "w"))
+        ≡ broken BadKind 22 }
+    ensures no_primary { table_at [] (people_start ++ numbered_columns) ≡ broken NoPrimary 13 }
 {}

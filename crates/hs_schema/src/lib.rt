@@ -13,6 +13,7 @@ mod columns;
 mod faults;
 mod indexes;
 mod laws;
+mod nullness;
 mod parts;
 mod schemas;
 mod spelling;
@@ -23,8 +24,8 @@ mod tokens;
 
 pub use faults::{SchemaFault, SchemaRule};
 pub use laws::{
-    example_breaches, example_table, lines_are_read_from_the_left, lines_say_the_valid_tables,
-    texts_are_read_again, texts_are_short,
+    example_breaches, example_of_counting, example_table, lines_are_read_from_the_left,
+    lines_say_the_valid_tables, texts_are_read_again, texts_are_short,
 };
 pub use row_types::Schema;
 pub use schemas::{SchemaLines, empty};

@@ -76,7 +76,7 @@ fn push_column(alloc: Global, tokens: &mut Vec<Token>, column: &Column) -> Resul
     tokens.push(Token::Text(Bytes::from_static(b"c")))?;
     tokens.push(text_token(alloc, column.name.as_slice())?)?;
     tokens.push(kind_token(alloc, column.kind)?)?;
-    tokens.push(nullness_token(column.null))?;
+    tokens.push(nullness_token(column.auto, column.null))?;
     tokens.push(preset_token(alloc, &column.preset)?)?;
     Ok(())
 }
@@ -94,10 +94,12 @@ fn kind_token(alloc: Global, kind: Kind) -> Result<Token, AllocError>
     }
 }
 
-fn nullness_token(null: bool) -> Token
-    ensures { result ≡ Token.Text (nullness_text null) }
+fn nullness_token(auto: bool, null: bool) -> Token
+    ensures { result ≡ Token.Text (nullness_text auto null) }
 {
-    if null {
+    if auto {
+        Token::Text(Bytes::from_static(b"auto"))
+    } else if null {
         Token::Text(Bytes::from_static(b"null"))
     } else {
         Token::Text(Bytes::from_static(b"not"))

@@ -1,10 +1,11 @@
 //! The table of a table line.
 ghost use Rattle.std.specs.Prelude.{◌≡◌, ◌+◌, ◌≤◌, ◌<◌, ◌^◌, length, IfOk};
 ghost use Rattle.std.specs.List.{list_any};
+ghost use Rattle.row_types.specs.Counted.{begins_counted, is_led};
 ghost use Rattle.row_types.specs.Valid.{is_primary, column_size, most_row_size};
 ghost use Rattle.hs_schema.specs.Reading.{Gives, start_at, has_table, table_name_at, whole_table, table_at};
 
-use crate::columns::columns_of;
+use crate::columns::{columns_of, has_counted};
 use crate::faults::{LineFault, SchemaRule};
 use crate::indexes::indexes_of;
 use crate::parts::is_primary;
@@ -75,7 +76,8 @@ fn has_table(tables: &[TableDef], db: &[u8], name: &[u8]) -> bool
     tables.iter().any(|table| db == table.db.as_slice() && name == table.name.as_slice())
 }
 
-/// The table, where one index is primary and the greatest row has room.
+/// The table, where one index is primary, the greatest row has room, and a counted column leads an
+/// index.
 fn whole_table(table: TableDef, end: u32) -> Result<TableDef, LineFault>
     requires { length table.columns ≤ 64 }
     ensures { Gives (λ whole. whole) result (whole_table table end) }
@@ -86,7 +88,39 @@ fn whole_table(table: TableDef, end: u32) -> Result<TableDef, LineFault>
     if most_row_size(table.columns.as_slice()) > MAX_ROW_SIZE {
         return Err(LineFault::Broken(SchemaRule::TooMany, end));
     }
+    if !is_led(table.columns.as_slice(), table.indexes.as_slice()) {
+        return Err(LineFault::Broken(SchemaRule::BadKind, end));
+    }
     Ok(table)
+}
+
+/// Whether a counted column, if there is one, leads an index.
+fn is_led(columns: &[Column], indexes: &[IndexDef]) -> bool
+    ensures { result ≡ is_led columns.now indexes.now }
+{
+    !has_counted(columns) || one_begins_counted(columns, indexes)
+}
+
+/// Whether an index begins with a counted column.
+fn one_begins_counted(columns: &[Column], indexes: &[IndexDef]) -> bool
+    ensures { result ≡ list_any (λ index. begins_counted columns.now index.parts) indexes.now }
+{
+    indexes
+        .iter()
+        .any(|index| begins_counted(columns, index.parts.as_slice()))
+}
+
+/// Whether the first of these places is that of a counted column.
+fn begins_counted(columns: &[Column], parts: &[u32]) -> bool
+    ensures { result ≡ begins_counted columns.now parts.now }
+{
+    match parts {
+        [] => false,
+        [first, ..] => match columns.get(*first as usize) {
+            Some(column) => column.auto,
+            None => false,
+        },
+    }
 }
 
 fn has_primary(indexes: &[IndexDef]) -> bool

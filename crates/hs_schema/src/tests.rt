@@ -5,7 +5,7 @@ use std::alloc::Global;
 use std::test::Fail;
 
 /// Table lines with their ends, and the same as they are spelled again.
-const TEXTS: [(&[u8], &[u8]); 3] = [
+const TEXTS: [(&[u8], &[u8]); 4] = [
     (b"", b""),
     (
         b"table\td\tt\tc\tk\tint\tnot\t+007\ti\tPRIMARY\tprimary\tk\n",
@@ -14,6 +14,10 @@ const TEXTS: [(&[u8], &[u8]); 3] = [
     (
         b"table\td\tt\tc\ta\tint\tnull\t\x00\tc\tb\tbytes:3\tnot\t\x01I\ti\tPRIMARY\tprimary\tb\n",
         b"table\td\tt\tc\ta\tint\tnull\t\x00\tc\tb\tbytes:3\tnot\t\x01I\ti\tPRIMARY\tprimary\tb\n",
+    ),
+    (
+        b"table\td\tt\tc\tk\tint\tauto\t\x00\ti\tPRIMARY\tprimary\tk\n",
+        b"table\td\tt\tc\tk\tint\tauto\t\x00\ti\tPRIMARY\tprimary\tk\n",
     ),
 ];
 
