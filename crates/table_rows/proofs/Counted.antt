@@ -10,9 +10,9 @@ use Rattle.row_types.specs.declared.values.Value.{Value}
 use Rattle.row_types.specs.Size.{row_size}
 use Rattle.table_rows.specs.Entries.{Entry, entry_cmp}
 use Rattle.table_rows.specs.declared.slot_ref.SlotRef.{SlotRef}
-use Rattle.table_rows.specs.Rows.{Rows, State, no_rows, def_of, indexes_of, rows_of, entries_of, room_of, with_entries}
+use Rattle.table_rows.specs.Rows.{Rows, State, no_rows, def_of, indexes_of, rows_of, entries_of, room_of, counter_of, with_counted, with_counter}
 use Rattle.table_rows.specs.Indexes.{primary_of}
-use Rattle.table_rows.specs.Slots.{is_live, row_of, row_at, without, with_row, with_row_at, without_at}
+use Rattle.table_rows.specs.Slots.{is_live, row_of, row_at, without, with_row, entries_with, without_at}
 use Rattle.table_rows.specs.Sizes.{entries_size, total, total_with}
 use Rattle.table_rows.specs.Valid.{IsValidState}
 use Rattle.table_rows.proofs.BySlot.{put_back, without_free}
@@ -32,8 +32,11 @@ size_between test e entries parted =
     omega (arith, a, b, c, d)
 
 module _ (state : State) (valid : IsValidState state) (table : ℕ) (within : table < length state.tables) where
-  pub total_entries : (entries : List Entry) → total (with_entries state table entries) + entries_size (entries_of state table) ≡ total state + entries_size entries
-  total_entries entries = sum_by-set (λ (rows : Rows). entries_size rows.entries) state.tables table (record { entries = entries; room = room_of state table }) no_rows within
+  pub total_entries : (entries : List Entry) (counter : ℕ) → total (with_counted state table entries counter) + entries_size (entries_of state table) ≡ total state + entries_size entries
+  total_entries entries counter = sum_by-set (λ (rows : Rows). entries_size rows.entries) state.tables table (record { entries = entries; room = room_of state table; counter = counter }) no_rows within
+
+  pub total_counter : (counter : ℕ) → total (with_counter state table counter) ≡ total state
+  total_counter counter = omega (arith, total_entries (entries_of state table) counter)
 
   pub size_le_total : entries_size (entries_of state table) ≤ total state
   size_le_total = get_or-le-sum_by (λ (rows : Rows). entries_size rows.entries) state.tables table no_rows within
@@ -52,25 +55,25 @@ module _ (state : State) (valid : IsValidState state) (table : ℕ) (within : ta
   size_with slot row =
       size_between _ (row, slot) (without slot (entries_of state table)) (parted_without (def_of state table) (rows_of state table) slot row (rows_valid state valid table within))
 
-  pub total_put : (slot : ℕ) (row : List Value) → is_live slot (entries_of state table) ≡ false → total (with_row_at state table slot row) ≡ total_with state table row None
-  total_put slot row free =
+  pub total_put : (slot : ℕ) (row : List Value) (counter : ℕ) → is_live slot (entries_of state table) ≡ false → total (with_counted state table (entries_with state table slot row) counter) ≡ total_with state table row None
+  total_put slot row counter free =
       let a = size_with slot row in
       let b : entries_size (without slot (entries_of state table)) ≡ entries_size (entries_of state table) = ap entries_size (without_free slot (entries_of state table) free) in
-      let c = total_entries (with_row (indexes_of state table) slot row (entries_of state table)) in
+      let c = total_entries (with_row (indexes_of state table) slot row (entries_of state table)) counter in
       omega (arith, a, b, c)
 
-  pub total_replaced : (slot : SlotRef) (row : List Value) → is_live slot.0 (entries_of state table) ≡ true → total (with_row_at state table slot.0 row) ≡ total_with state table row (Some slot)
-  total_replaced slot row live =
+  pub total_replaced : (slot : SlotRef) (row : List Value) (counter : ℕ) → is_live slot.0 (entries_of state table) ≡ true → total (with_counted state table (entries_with state table slot.0 row) counter) ≡ total_with state table row (Some slot)
+  total_replaced slot row counter live =
       let a = size_with slot.0 row in
       let b = size_without slot.0 live in
-      let c = total_entries (with_row (indexes_of state table) slot.0 row (entries_of state table)) in
+      let c = total_entries (with_row (indexes_of state table) slot.0 row (entries_of state table)) counter in
       let d = size_le_total in
       omega (arith, a, b, c, d)
 
   pub total_deleted : (slot : ℕ) → is_live slot (entries_of state table) ≡ true → total (without_at state table slot) + row_size (row_at state table slot) ≡ total state
   total_deleted slot live =
       let b = size_without slot live in
-      let c = total_entries (without slot (entries_of state table)) in
+      let c = total_entries (without slot (entries_of state table)) (counter_of state table) in
       omega (arith, b, c)
 
   -- a row counts no more than all of them
@@ -78,9 +81,9 @@ module _ (state : State) (valid : IsValidState state) (table : ℕ) (within : ta
   row_size_le_total slot live = omega (arith, size_without slot live, size_le_total)
 
   -- nor than all of them will count
-  pub row_size_le_after : (slot : ℕ) (row : List Value) → row_size row ≤ total (with_row_at state table slot row)
-  row_size_le_after slot row =
+  pub row_size_le_after : (slot : ℕ) (row : List Value) (counter : ℕ) → row_size row ≤ total (with_counted state table (entries_with state table slot row) counter)
+  row_size_le_after slot row counter =
       let a = size_with slot row in
-      let c = total_entries (with_row (indexes_of state table) slot row (entries_of state table)) in
+      let c = total_entries (with_row (indexes_of state table) slot row (entries_of state table)) counter in
       let d = size_le_total in
       omega (arith, a, c, d)

@@ -8,7 +8,7 @@ use Rattle.std.proofs.Common.{◌≡◌, ◌≤◌, List, [], ◌∷◌, ◌++�
 use Rattle.std.proofs.Math.Seq.{take-append_seam}
 use Rattle.std.proofs.lemmas.List.{take_all, take-append-drop, take-append-le, length-append}
 use Rattle.table_rows.specs.declared.undo.Undo.{Undo}
-use Rattle.table_rows.specs.declared.undo.Undo.TheVariants.{Put, Replaced, Deleted}
+use Rattle.table_rows.specs.declared.undo.Undo.TheVariants.{Put, Replaced, Deleted, Count}
 use Rattle.table_rows.specs.Rows.{State}
 use Rattle.table_rows.specs.Undoing.{since, undone, undone_all, LeadsBack}
 use Rattle.table_rows.specs.Widths.{IsRoomier, AreRoomier}
@@ -51,9 +51,10 @@ abbrev AreAlike : State → State → Type 0
 AreAlike a b = (a.schema ≡ b.schema) × (length a.tables ≡ length b.tables)
 
 undone_alike : (undo : Undo) (state : State) → AreAlike state (undone undo state)
-undone_alike (Put table slot) state = (refl, sym (length-set state.tables table _))
-undone_alike (Replaced table slot row) state = (refl, sym (length-set state.tables table _))
+undone_alike (Put table slot counter) state = (refl, sym (length-set state.tables table _))
+undone_alike (Replaced table slot row counter) state = (refl, sym (length-set state.tables table _))
 undone_alike (Deleted table slot row) state = (refl, sym (length-set state.tables table _))
+undone_alike (Count table counter) state = (refl, sym (length-set state.tables table _))
 
 all_alike : (undos : List Undo) (state : State) → AreAlike state (undone_all undos state)
 all_alike [] state = (refl, refl)

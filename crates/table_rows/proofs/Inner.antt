@@ -1,13 +1,14 @@
 -- What holds inside of tables.
 --     kept_at      a table is kept in the orders of its indexes
 --     seen_after, inside_after      a table that has other rows
-use Rattle.std.proofs.Common.{◌≡◌, ℕ, ◌<◌, List, [], length, get_or, set, map, refl, ap, sym, subst, ◌∙◌}
+use Rattle.std.proofs.Common.{◌≡◌, ℕ, ◌<◌, List, [], length, get_or, set, map, Option, None, refl, ap, sym, subst, ◌∙◌}
 use Rattle.std.specs.Vec.{with_item}
 use Rattle.std.proofs.lemmas.List.{get_or-map, length-map, map-set}
 use Rattle.std.proofs.Math.Seq.{map-set_same}
 use Rattle.row_types.specs.declared.tables.TableDef.{TableDef}
+use Rattle.row_types.specs.Counted.{counted_of}
 use Rattle.table_rows.specs.declared.tables.Tables.TheInside.{Inside}
-use Rattle.table_rows.specs.Rows.{Rows, State, no_table, no_rows, indexes_of, rows_of, with_rows}
+use Rattle.table_rows.specs.Rows.{Rows, State, no_table, no_rows, indexes_of, rows_of, counted_at, with_rows}
 use Rattle.table_rows.specs.Indexes.{primary_of, parts_of}
 use Rattle.table_rows.specs.Sizes.{total}
 use Rattle.table_rows.specs.Valid.{AreValidRows, IsValidState}
@@ -17,7 +18,7 @@ use Rattle.table_rows.proofs.States.{zip_long}
 
 -- the table as it is kept, with other rows
 abbrev pub kept_with : State → ℕ → Rows → Table
-kept_with state table rows = record { key = (kept_of state table).key; orders = (kept_of state table).orders; rows = rows }
+kept_with state table rows = record { key = (kept_of state table).key; orders = (kept_of state table).orders; counted = (kept_of state table).counted; rows = rows }
 
 -- the fields once a table was changed
 abbrev pub after : Inside → ℕ → ℕ → Table → Inside
@@ -41,9 +42,12 @@ module _ (inside : Inside) (ok : IsInside inside) (table : ℕ) (within_tables :
       let orders : store.orders ≡ parts_of (indexes_of (seen inside) table) =
       ap (λ (t : Table). t.orders) read ∙ sym (get_or-map (λ (t : Table). t.orders) stores table store [] within) ∙ ap (λ (os : List (List (List ℕ))). get_or os table []) ok.orders
       ∙ get_or-map (λ (d : TableDef). parts_of d.indexes) defs table no_table [] within_defs in
+      let counted : store.counted ≡ counted_at (seen inside) table =
+      ap (λ (t : Table). t.counted) read ∙ sym (get_or-map (λ (t : Table). t.counted) stores table store None within) ∙ ap (λ (cs : List (Option ℕ)). get_or cs table None) ok.counted_columns
+      ∙ get_or-map (λ (d : TableDef). counted_of d.columns) defs table no_table None within_defs in
       let rows : store.rows ≡ rows_of (seen inside) table =
       ap (λ (t : Table). t.rows) read ∙ sym (get_or-map (λ (t : Table). t.rows) stores table store no_rows within) in
-      λ i. record { key = key i; orders = orders i; rows = rows i }
+      λ i. record { key = key i; orders = orders i; counted = counted i; rows = rows i }
 
   module _ (bytes : ℕ) (new : Table) (rows : Rows) (kept : new ≡ kept_with (seen inside) table rows) where
     pub seen_after : seen (after inside bytes table new) ≡ with_rows (seen inside) table rows
@@ -60,6 +64,7 @@ module _ (inside : Inside) (ok : IsInside inside) (table : ℕ) (within_tables :
         valid = subst IsValidState (sym seen_after) valid;
         counted = counted ∙ ap total (sym seen_after);
         keys = same_part (λ (t : Table). t.key) refl ∙ ok.keys;
+        counted_columns = same_part (λ (t : Table). t.counted) refl ∙ ok.counted_columns;
         orders = same_part (λ (t : Table). t.orders) refl ∙ ok.orders;
       }
 

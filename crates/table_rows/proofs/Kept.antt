@@ -43,8 +43,8 @@ module _ (key : List ℕ) (slots : Slots) where
   new_to_kept row new = all_same (λ (e : Entry). is_like key row e ≡ false) (walk key slots) (kept slots) (same_members_back (kept slots) (walk key slots) (walk_members key slots)) new
 
   -- a slot without a row
-  pub vacant_there : (slot : ℕ) → store.IsFree slots slot → IsVacant slot (record { entries = walk key slots; room = length slots })
-  vacant_there slot vacant = record {
+  pub vacant_there : (counter slot : ℕ) → store.IsFree slots slot → IsVacant slot (record { entries = walk key slots; room = length slots; counter = counter })
+  vacant_there counter slot vacant = record {
     within = vacant_within slots slot vacant;
     free = none_any (is_in slot) (walk key slots) (all_weaker (IsRowOf slots) (λ (e : Entry). is_in slot e ≡ false) elsewhere (walk key slots) (walk_rows key slots));
   }
@@ -69,8 +69,8 @@ module _ (key : List ℕ) (slots : Slots) where
   lives_here None live = tt
   lives_here (Some slot) live = live_here slot live
 
-  pub vacant_here : (slot : ℕ) → IsVacant slot (record { entries = walk key slots; room = length slots }) → store.IsFree slots slot
-  vacant_here slot vacant = slice_get-get_or slots slot None vacant.within ∙ ap (λ (o : Option (List Value)). Some o) (by_row (row_under slots slot) refl)
+  pub vacant_here : (counter slot : ℕ) → IsVacant slot (record { entries = walk key slots; room = length slots; counter = counter }) → store.IsFree slots slot
+  vacant_here counter slot vacant = slice_get-get_or slots slot None vacant.within ∙ ap (λ (o : Option (List Value)). Some o) (by_row (row_under slots slot) refl)
     where
       by_row : (o : Option (List Value)) → row_under slots slot ≡ o → o ≡ None
       by_row None row = refl
@@ -99,7 +99,7 @@ module _ (key : List ℕ) (slots : Slots) where
     pub entries_put : (slot : ℕ) (row : List Value) → store.IsFree slots slot → IsNew key row (walk key slots) → walk key (set slots slot (Some row)) ≡ with_item (entry_cmp key) (row, slot) (without slot (walk key slots))
     entries_put slot row vacant new =
         walk_put_vacant key slots slot row vacant keyed (new_to_kept row new)
-        ∙ ap (with_item (entry_cmp key) (row, slot)) (sym (without_free slot (walk key slots) (vacant_there slot vacant).free))
+        ∙ ap (with_item (entry_cmp key) (row, slot)) (sym (without_free slot (walk key slots) (vacant_there 0 slot vacant).free))
 
     -- a slot that loses its row
     pub entries_without : (slot : ℕ) (old : List Value) → row_under slots slot ≡ Some old → walk key (set slots slot None) ≡ without slot (walk key slots)

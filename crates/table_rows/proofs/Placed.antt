@@ -1,6 +1,6 @@
 -- Valid rows stay valid.
 --     apart_when_new, valid_with, valid_without, valid_room      with a row that may stand there, without one, in more slots
-use Rattle.std.proofs.Common.{◌≡◌, ℕ, ◌<◌, ◌≤◌, true, false, not, filter, List, [], ◌∷◌, sym, subst, ◌∙◌, lt_of_lt_of_le}
+use Rattle.std.proofs.Common.{◌≡◌, ℕ, ◌<◌, ◌≤◌, true, false, not, filter, List, [], ◌∷◌, sym, subst, ◌∙◌, le_trans, lt_of_lt_of_le}
 use Rattle.std.specs.List.{AllByRecursion, list_any}
 use Rattle.std.specs.Ordering.{is_eq}
 use Rattle.index_tree.specs.Ordered.{IsApartFrom, is_below}
@@ -12,7 +12,9 @@ use Rattle.index_tree.proofs.Ascending.{ascending_kept, ascending_with_item, par
 use Rattle.row_types.specs.declared.values.Value.{Value}
 use Rattle.row_types.specs.declared.indexes.IndexDef.{IndexDef}
 use Rattle.row_types.specs.declared.tables.TableDef.{TableDef}
+use Rattle.row_types.specs.Counted.{counted_of}
 use Rattle.row_types.specs.Valid.{is_primary}
+use Rattle.table_rows.specs.Counters.{above_row, IsCounter}
 use Rattle.table_rows.specs.Entries.{Entry, entry_cmp}
 use Rattle.table_rows.specs.StoreWalks.{is_like, IsNew}
 use Rattle.table_rows.specs.Rows.{Rows}
@@ -44,6 +46,8 @@ valid_without def rows slot valid = let test = λ (e : Entry). not (is_in slot e
   unique = all_weaker (AreUniqueIn rows.entries) (AreUniqueIn (without slot rows.entries)) (λ index pairs. pairs_kept (λ (a b : Entry). meets index a.0 b ≡ false) test rows.entries pairs) def.indexes valid.unique;
   within = all_kept (λ (e : Entry). e.1 < rows.room) test rows.entries valid.within;
   apart = pairs_kept (λ (a b : Entry). is_in a.1 b ≡ false) test rows.entries valid.apart;
+  counter = valid.counter;
+  below = all_kept (λ (e : Entry). above_row (counted_of def.columns) e.0 ≤ rows.counter) test rows.entries valid.below;
 }
 
 -- and parted by where another one would stand
@@ -51,8 +55,8 @@ pub parted_without : (def : TableDef) (rows : Rows) (slot : ℕ) (row : List Val
 parted_without def rows slot row valid = parted_below (entry_cmp (primary_of def.indexes)) (entry_cmp_total (primary_of def.indexes)) (row, slot) (without slot rows.entries) (valid_without def rows slot valid).ascending
 
 -- a row that stands among them was new
-pub new_when_valid : (def : TableDef) (rows : Rows) (slot : ℕ) (row : List Value) → AreValidRows def rows → AreValidRows def (record rows { entries = with_row def.indexes slot row rows.entries }) → IsNew (primary_of def.indexes) row (without slot rows.entries)
-new_when_valid def rows slot row valid after =
+pub new_when_valid : (def : TableDef) (rows : Rows) (slot : ℕ) (row : List Value) (counter : ℕ) → AreValidRows def rows → AreValidRows def (record rows { entries = with_row def.indexes slot row rows.entries; counter = counter }) → IsNew (primary_of def.indexes) row (without slot rows.entries)
+new_when_valid def rows slot row counter valid after =
     let columns = primary_of def.indexes in
     let cmp = entry_cmp columns in
     let x : Entry = (row, slot) in
@@ -69,8 +73,8 @@ module _ (def : TableDef) (rows : Rows) (slot : ℕ) (row : List Value) (primary
   unique_with index apart pairs =
       pairs_put (λ (a b : Entry). meets index a.0 b ≡ false) (λ a b none. sym (meets_back index a b) ∙ none) (is_below (entry_cmp (primary_of def.indexes)) (row, slot)) (row, slot) (without slot rows.entries) others_parted apart pairs
 
-  pub valid_with : slot < rows.room → AreValidRows def (record rows { entries = with_row def.indexes slot row rows.entries })
-  valid_with within =
+  pub valid_with : (counter : ℕ) → IsCounter (counted_of def.columns) counter → rows.counter ≤ counter → above_row (counted_of def.columns) row ≤ counter → slot < rows.room → AreValidRows def (record rows { entries = with_row def.indexes slot row rows.entries; counter = counter })
+  valid_with counter is later above within =
       let rest = valid_without def rows slot valid in
       let cmp = entry_cmp (primary_of def.indexes) in
       let entry : Entry = (row, slot) in
@@ -81,6 +85,9 @@ module _ (def : TableDef) (rows : Rows) (slot : ℕ) (row : List Value) (primary
         unique = all_with (λ (index : IndexDef). AllByRecursion (λ e. meets index row e ≡ false) (without slot rows.entries)) (AreUniqueIn (without slot rows.entries)) (AreUniqueIn (with_row def.indexes slot row rows.entries)) unique_with def.indexes (dup_none def.indexes row (without slot rows.entries) placed.no_dup) rest.unique;
         within = all_put test entry (without slot rows.entries) (λ (e : Entry). e.1 < rows.room) within rest.within;
         apart = pairs_put (λ (a b : Entry). is_in a.1 b ≡ false) other_slot test entry (without slot rows.entries) others_parted (all_without slot rows.entries) rest.apart;
+        counter = is;
+        below = all_put test entry (without slot rows.entries) (λ (e : Entry). above_row (counted_of def.columns) e.0 ≤ counter) above
+            (all_weaker (λ (e : Entry). above_row (counted_of def.columns) e.0 ≤ rows.counter) (λ (e : Entry). above_row (counted_of def.columns) e.0 ≤ counter) (λ e below. le_trans below later) (without slot rows.entries) rest.below);
       }
 
 -- a slot with a row is one of the table's
@@ -94,4 +101,18 @@ valid_room def rows room wider valid = record {
   unique = valid.unique;
   within = all_weaker (λ (e : Entry). e.1 < rows.room) (λ (e : Entry). e.1 < room) (λ e within. lt_of_lt_of_le within wider) rows.entries valid.within;
   apart = valid.apart;
+  counter = valid.counter;
+  below = valid.below;
+}
+
+-- a counter that is higher is above all rows, too
+pub valid_counter : (def : TableDef) (rows : Rows) (counter : ℕ) → IsCounter (counted_of def.columns) counter → rows.counter ≤ counter → AreValidRows def rows → AreValidRows def (record rows { counter = counter })
+valid_counter def rows counter is later valid = record {
+  whole = valid.whole;
+  ascending = valid.ascending;
+  unique = valid.unique;
+  within = valid.within;
+  apart = valid.apart;
+  counter = is;
+  below = all_weaker (λ (e : Entry). above_row (counted_of def.columns) e.0 ≤ rows.counter) (λ (e : Entry). above_row (counted_of def.columns) e.0 ≤ counter) (λ e below. le_trans below later) rows.entries valid.below;
 }

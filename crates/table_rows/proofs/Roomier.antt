@@ -12,8 +12,8 @@ use Rattle.row_types.specs.declared.tables.Schema.{Schema}
 use Rattle.row_types.specs.Valid.{IsValid}
 use Rattle.table_rows.specs.Entries.{Entry}
 use Rattle.table_rows.specs.declared.undo.Undo.{Undo}
-use Rattle.table_rows.specs.declared.undo.Undo.TheVariants.{Put, Replaced, Deleted}
-use Rattle.table_rows.specs.Rows.{Rows, State, no_table, no_rows, indexes_of, rows_of, entries_of, room_of, with_entries}
+use Rattle.table_rows.specs.declared.undo.Undo.TheVariants.{Put, Replaced, Deleted, Count}
+use Rattle.table_rows.specs.Rows.{Rows, State, no_table, no_rows, indexes_of, rows_of, entries_of, room_of, counter_of, with_counted}
 use Rattle.table_rows.specs.Slots.{IsVacant, is_live, with_row, without}
 use Rattle.table_rows.specs.Sizes.{entries_size, most_bytes}
 use Rattle.table_rows.specs.Valid.{AreValidRows, IsValidState}
@@ -24,7 +24,7 @@ use Rattle.table_rows.proofs.Placed.{valid_room}
 
 rows_itself : (tables : List Rows) → AllZip AreRoomier tables tables
 rows_itself [] = tt
-rows_itself (t ∷ ts) = ((refl, le_refl t.room), rows_itself ts)
+rows_itself (t ∷ ts) = ((refl, le_refl t.room, refl), rows_itself ts)
 
 rows_then : (xs ys zs : List Rows) → AllZip AreRoomier xs ys → AllZip AreRoomier ys zs → AllZip AreRoomier xs zs
 rows_then [] [] [] a b = tt
@@ -32,7 +32,7 @@ rows_then [] [] (z ∷ zs) a b = absurd b
 rows_then [] (y ∷ ys) zs a b = absurd a
 rows_then (x ∷ xs) [] zs a b = absurd a
 rows_then (x ∷ xs) (y ∷ ys) [] a b = absurd b
-rows_then (x ∷ xs) (y ∷ ys) (z ∷ zs) a b = ((b.0.0 ∙ a.0.0, le_trans a.0.1 b.0.1), rows_then xs ys zs a.1 b.1)
+rows_then (x ∷ xs) (y ∷ ys) (z ∷ zs) a b = ((b.0.0 ∙ a.0.0, le_trans a.0.1 b.0.1, b.0.2 ∙ a.0.2), rows_then xs ys zs a.1 b.1)
 
 pub roomier_itself : (state : State) → IsRoomier state state
 roomier_itself state = record { schema = refl; bytes_max = refl; tables = rows_itself state.tables }
@@ -57,8 +57,8 @@ widened_roomier table before after wide = record {
   schema = ap (λ (s : State). s.schema) wide.rows;
   bytes_max = ap (λ (s : State). s.bytes_max) wide.rows;
   tables = subst (AllZip AreRoomier before.tables) (sym (ap (λ (s : State). s.tables) wide.rows))
-      (subst (λ (ts : List Rows). AllZip AreRoomier ts (set before.tables table (record { entries = entries_of before table; room = room_of after table }))) (set-get_or before.tables table no_rows)
-      (set_both AreRoomier before.tables before.tables table (rows_of before table) (record { entries = entries_of before table; room = room_of after table }) (rows_itself before.tables) (refl, wide.room)));
+      (subst (λ (ts : List Rows). AllZip AreRoomier ts (set before.tables table (record { entries = entries_of before table; room = room_of after table; counter = counter_of before table }))) (set-get_or before.tables table no_rows)
+      (set_both AreRoomier before.tables before.tables table (rows_of before table) (record { entries = entries_of before table; room = room_of after table; counter = counter_of before table }) (rows_itself before.tables) (refl, wide.room, refl)));
 }
 
 -- valid states stay valid
@@ -69,7 +69,7 @@ valid_rows_roomier [] (x ∷ xs) ys valid more = absurd valid
 valid_rows_roomier (d ∷ ds) [] ys valid more = absurd valid
 valid_rows_roomier (d ∷ ds) (x ∷ xs) [] valid more = absurd more
 valid_rows_roomier (d ∷ ds) (x ∷ xs) (y ∷ ys) valid more =
-    (subst (λ (es : List Entry). AreValidRows d (record y { entries = es })) (sym more.0.0) (valid_room d x y.room more.0.1 valid.0), valid_rows_roomier ds xs ys valid.1 more.1)
+    (subst (λ (n : ℕ). AreValidRows d (record y { counter = n })) (sym more.0.2) (subst (λ (es : List Entry). AreValidRows d (record { entries = es; room = y.room; counter = x.counter })) (sym more.0.0) (valid_room d x y.room more.0.1 valid.0)), valid_rows_roomier ds xs ys valid.1 more.1)
 
 total_rows_roomier : (xs ys : List Rows) → AllZip AreRoomier xs ys → sum_by (λ (r : Rows). entries_size r.entries) ys ≡ sum_by (λ (r : Rows). entries_size r.entries) xs
 total_rows_roomier [] [] more = refl
@@ -97,11 +97,11 @@ module _ (before after : State) (more : IsRoomier before after) (table : ℕ) (w
   indexes_same : indexes_of after table ≡ indexes_of before table
   indexes_same = ap (λ (s : Schema). (get_or s.tables table no_table).indexes) more.schema
 
-  with_roomier : (change : List Entry → List Entry) (other : List Entry → List Entry) → other (entries_of after table) ≡ change (entries_of before table) → IsRoomier (with_entries before table (change (entries_of before table))) (with_entries after table (other (entries_of after table)))
-  with_roomier change other same = record {
+  with_roomier : (change : List Entry → List Entry) (other : List Entry → List Entry) (counter later : ℕ) → other (entries_of after table) ≡ change (entries_of before table) → later ≡ counter → IsRoomier (with_counted before table (change (entries_of before table)) counter) (with_counted after table (other (entries_of after table)) later)
+  with_roomier change other counter later same alike = record {
     schema = more.schema;
     bytes_max = more.bytes_max;
-    tables = set_both AreRoomier before.tables after.tables table _ _ more.tables (same, rows_roomier.1);
+    tables = set_both AreRoomier before.tables after.tables table _ _ more.tables (same, rows_roomier.1, alike);
   }
 
   live_same : (slot : ℕ) → is_live slot (entries_of before table) ≡ true → is_live slot (entries_of after table) ≡ true
@@ -115,25 +115,31 @@ module _ (before after : State) (more : IsRoomier before after) (table : ℕ) (w
 
 -- so does what is undone
 pub roomier_undone : (undo : Undo) (before after : State) → CanUndo undo before → IsRoomier before after → IsRoomier (undone undo before) (undone undo after)
-roomier_undone (Put table slot) before after can more = with_roomier before after more table can.table (without slot.0) (without slot.0) (ap (without slot.0) (rows_roomier before after more table can.table).0)
-roomier_undone (Replaced table slot row) before after can more = with_roomier before after more table can.table (with_row (indexes_of before table) slot.0 row) (with_row (indexes_of after table) slot.0 row) (row_same before after more table can.table slot.0 row)
-roomier_undone (Deleted table slot row) before after can more = with_roomier before after more table can.table (with_row (indexes_of before table) slot.0 row) (with_row (indexes_of after table) slot.0 row) (row_same before after more table can.table slot.0 row)
+roomier_undone (Put table slot counter) before after can more = with_roomier before after more table can.table (without slot.0) (without slot.0) counter counter (ap (without slot.0) (rows_roomier before after more table can.table).0) refl
+roomier_undone (Replaced table slot row counter) before after can more = with_roomier before after more table can.table (with_row (indexes_of before table) slot.0 row) (with_row (indexes_of after table) slot.0 row) counter counter (row_same before after more table can.table slot.0 row) refl
+roomier_undone (Deleted table slot row) before after can more = with_roomier before after more table can.table (with_row (indexes_of before table) slot.0 row) (with_row (indexes_of after table) slot.0 row) (counter_of before table) (counter_of after table) (row_same before after more table can.table slot.0 row) (rows_roomier before after more table can.table).2
+roomier_undone (Count table counter) before after can more = with_roomier before after more table can.table (λ es. es) (λ es. es) counter counter (rows_roomier before after more table can.table).0 refl
 
 pub can_undo_roomier : (undo : Undo) (before after : State) → CanUndo undo before → IsRoomier before after → CanUndo undo after
-can_undo_roomier (Put table slot) before after can more = record {
+can_undo_roomier (Put table slot counter) before after can more = record {
   table = within_after before after more table can.table;
   slot = live_same before after more table can.table slot.0 can.slot;
-  valid = roomier_valid _ _ (roomier_undone (Put table slot) before after can more) can.valid;
+  valid = roomier_valid _ _ (roomier_undone (Put table slot counter) before after can more) can.valid;
 }
-can_undo_roomier (Replaced table slot row) before after can more = record {
+can_undo_roomier (Replaced table slot row counter) before after can more = record {
   table = within_after before after more table can.table;
   slot = live_same before after more table can.table slot.0 can.slot;
-  valid = roomier_valid _ _ (roomier_undone (Replaced table slot row) before after can more) can.valid;
+  valid = roomier_valid _ _ (roomier_undone (Replaced table slot row counter) before after can more) can.valid;
 }
 can_undo_roomier (Deleted table slot row) before after can more = record {
   table = within_after before after more table can.table;
   slot = vacant_same before after more table can.table slot.0 can.slot;
   valid = roomier_valid _ _ (roomier_undone (Deleted table slot row) before after can more) can.valid;
+}
+can_undo_roomier (Count table counter) before after can more = record {
+  table = within_after before after more table can.table;
+  slot = tt;
+  valid = roomier_valid _ _ (roomier_undone (Count table counter) before after can more) can.valid;
 }
 
 pub undoable_roomier : (undos : List Undo) (before after : State) → AreUndoable undos before → IsRoomier before after → AreUndoable undos after × IsRoomier (undone_all undos before) (undone_all undos after)

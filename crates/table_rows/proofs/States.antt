@@ -1,5 +1,5 @@
 -- One table of a state.
---     rows_with, entries_with, with_again, with_same      what a change of a table's rows makes of them
+--     rows_with, entries_given, counter_with, with_again, counter_again, with_same      what a change of a table's rows makes of them
 --     zip_set, zip_at, rows_valid, primary_in, state_with      valid states
 use Rattle.std.proofs.Common.{◌≡◌, ℕ, zero, suc, ◌<◌, ◌≤◌, true, List, [], ◌∷◌, length, get_or, set, refl, ap, sym, subst, ◌∙◌, arith, get_or-set_same, set-set}
 use Rattle.std.specs.List.{AllZip, list_any}
@@ -8,7 +8,7 @@ use Rattle.std.proofs.lemmas.List.Elements.{All-from_recursion}
 use Rattle.row_types.specs.declared.indexes.IndexDef.{IndexDef}
 use Rattle.row_types.specs.Valid.{is_primary, IsTable}
 use Rattle.table_rows.specs.Entries.{Entry}
-use Rattle.table_rows.specs.Rows.{Rows, State, no_table, no_rows, def_of, indexes_of, rows_of, entries_of, room_of, with_rows, with_entries}
+use Rattle.table_rows.specs.Rows.{Rows, State, no_table, no_rows, def_of, indexes_of, rows_of, entries_of, room_of, counter_of, with_rows, with_counted, with_counter, with_entries}
 use Rattle.table_rows.specs.Sizes.{total, most_bytes}
 use Rattle.table_rows.specs.Valid.{AreValidRows, IsValidState}
 
@@ -16,16 +16,24 @@ module _ (state : State) (table : ℕ) (within : table < length state.tables) wh
   pub rows_with : (rows : Rows) → rows_of (with_rows state table rows) table ≡ rows
   rows_with rows = get_or-set_same state.tables table rows no_rows within
 
-  pub entries_with : (entries : List Entry) → entries_of (with_entries state table entries) table ≡ entries
-  entries_with entries = ap (λ (rows : Rows). rows.entries) (rows_with _)
+  pub entries_given : (entries : List Entry) (counter : ℕ) → entries_of (with_counted state table entries counter) table ≡ entries
+  entries_given entries counter = ap (λ (rows : Rows). rows.entries) (rows_with _)
 
-  pub room_with : (entries : List Entry) → room_of (with_entries state table entries) table ≡ room_of state table
-  room_with entries = ap (λ (rows : Rows). rows.room) (rows_with _)
+  pub room_with : (entries : List Entry) (counter : ℕ) → room_of (with_counted state table entries counter) table ≡ room_of state table
+  room_with entries counter = ap (λ (rows : Rows). rows.room) (rows_with _)
 
-  pub with_again : (entries more : List Entry) → with_entries (with_entries state table entries) table more ≡ with_entries state table more
-  with_again entries more =
-      ap (λ (room : ℕ). with_rows (with_entries state table entries) table (record { entries = more; room = room })) (room_with entries)
+  pub counter_with : (entries : List Entry) (counter : ℕ) → counter_of (with_counted state table entries counter) table ≡ counter
+  counter_with entries counter = ap (λ (rows : Rows). rows.counter) (rows_with _)
+
+  pub with_again : (entries : List Entry) (counter : ℕ) (more : List Entry) (later : ℕ) → with_counted (with_counted state table entries counter) table more later ≡ with_counted state table more later
+  with_again entries counter more later =
+      ap (λ (room : ℕ). with_rows (with_counted state table entries counter) table (record { entries = more; room = room; counter = later })) (room_with entries counter)
       ∙ ap (λ (tables : List Rows). record { schema = state.schema; bytes_max = state.bytes_max; tables = tables }) (set-set state.tables table _ _)
+
+  -- another counter after other entries
+  pub counter_again : (entries : List Entry) (counter later : ℕ) → with_counter (with_counted state table entries counter) table later ≡ with_counted state table entries later
+  counter_again entries counter later =
+      ap (λ (es : List Entry). with_counted (with_counted state table entries counter) table es later) (entries_given entries counter) ∙ with_again entries counter entries later
 
 pub with_same : (state : State) (table : ℕ) → with_entries state table (entries_of state table) ≡ state
 with_same state table = ap (λ (tables : List Rows). record { schema = state.schema; bytes_max = state.bytes_max; tables = tables }) (set-get_or state.tables table no_rows)

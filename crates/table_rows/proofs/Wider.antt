@@ -2,18 +2,20 @@
 --     widened_valid, widened_total, roomy_kept      a table with more slots
 --     slots_found, slots_widened      a table with as many as are wanted
 --     empty_valid, empty_total      tables without a row
-use Rattle.std.proofs.Common.{◌≡◌, ℕ, ◌+◌, ◌<◌, ◌≤◌, List, [], ◌∷◌, length, map, sum_by, OnOk, OnErr, Result, Ok, Err, le_refl, refl, ap, sym, subst, ◌∙◌, arith}
+use Rattle.std.proofs.Common.{◌≡◌, ℕ, ◌+◌, ◌<◌, ◌≤◌, List, [], ◌∷◌, length, map, sum_by, OnOk, OnErr, Result, Ok, Err, Option, None, Some, le_refl, refl, ap, sym, subst, ◌∙◌, arith}
 use Rattle.std.specs.List.{AllByRecursion, AllZip}
 use Rattle.std.proofs.Math.Nat.{le-max_left, le-max_right}
 use Rattle.std.proofs.lemmas.List.Sums.{sum_by-set, sum_by-cons}
 use Rattle.row_types.specs.declared.indexes.IndexDef.{IndexDef}
 use Rattle.row_types.specs.declared.tables.TableDef.{TableDef}
 use Rattle.row_types.specs.declared.tables.Schema.{Schema}
+use Rattle.row_types.specs.Counted.{counted_of}
 use Rattle.row_types.specs.Valid.{IsValid}
+use Rattle.table_rows.specs.Counters.{first_counter, IsCounter}
 use Rattle.table_rows.specs.Rows.{Rows, State, no_rows, def_of, rows_of, entries_of, room_of, with_rows}
 use Rattle.table_rows.specs.Sizes.{entries_size, total, most_bytes}
 use Rattle.table_rows.specs.Valid.{AreUniqueIn, AreValidRows, IsValidState}
-use Rattle.table_rows.specs.Widths.{IsWidened, room_for, with_slots, empty_state}
+use Rattle.table_rows.specs.Widths.{IsWidened, room_for, with_slots, empty_rows, empty_state}
 use Rattle.table_rows.specs.declared.tables.Tables.TheInside.{Inside}
 use Rattle.table_rows.specs.Indexes.{primary_of, parts_of}
 use Rattle.table_rows.specs.Table.{Table, empty_table, with_room}
@@ -64,13 +66,17 @@ empty_unique : (indexes : List IndexDef) → AllByRecursion (AreUniqueIn []) ind
 empty_unique [] = tt
 empty_unique (i ∷ is) = (tt, empty_unique is)
 
-empty_tables_valid : (defs : List TableDef) → AllZip AreValidRows defs (map (λ (d : TableDef). no_rows) defs)
-empty_tables_valid [] = tt
-empty_tables_valid (d ∷ ds) = (record { whole = tt; ascending = tt; unique = empty_unique d.indexes; within = tt; apart = tt }, empty_tables_valid ds)
+first_is : (counted : Option ℕ) → IsCounter counted (first_counter counted)
+first_is None = refl
+first_is (Some column) = (omega arith, omega arith)
 
-empty_tables_total : (defs : List TableDef) → sum_by (λ (rows : Rows). entries_size rows.entries) (map (λ (d : TableDef). no_rows) defs) ≡ 0
+empty_tables_valid : (defs : List TableDef) → AllZip AreValidRows defs (map empty_rows defs)
+empty_tables_valid [] = tt
+empty_tables_valid (d ∷ ds) = (record { whole = tt; ascending = tt; unique = empty_unique d.indexes; within = tt; apart = tt; counter = first_is (counted_of d.columns); below = tt }, empty_tables_valid ds)
+
+empty_tables_total : (defs : List TableDef) → sum_by (λ (rows : Rows). entries_size rows.entries) (map empty_rows defs) ≡ 0
 empty_tables_total [] = refl
-empty_tables_total (d ∷ ds) = omega (arith, sum_by-cons (λ (rows : Rows). entries_size rows.entries) no_rows (map (λ (e : TableDef). no_rows) ds), empty_tables_total ds)
+empty_tables_total (d ∷ ds) = omega (arith, sum_by-cons (λ (rows : Rows). entries_size rows.entries) (empty_rows d) (map empty_rows ds), empty_tables_total ds)
 
 pub empty_total : (schema : Schema) (bytes_max : ℕ) → total (empty_state schema bytes_max) ≡ 0
 empty_total schema bytes_max = empty_tables_total schema.tables
@@ -88,14 +94,15 @@ map_again : {A B C : Type 0} (f : A → B) (g : B → C) (xs : List A) → map g
 map_again f g [] = refl
 map_again f g (x ∷ xs) = ap (λ ys. g (f x) ∷ ys) (map_again f g xs)
 
-module _ (inside : Inside) (schema : Schema) (same : inside.schema ≡ schema) (stores : inside.stores.items ≡ map (λ (d : TableDef). empty_table d.indexes) schema.tables) where
+module _ (inside : Inside) (schema : Schema) (same : inside.schema ≡ schema) (stores : inside.stores.items ≡ map empty_table schema.tables) where
   pub empty_seen : seen inside ≡ empty_state schema inside.bytes_max
-  empty_seen = λ i. record { schema = same i; bytes_max = inside.bytes_max; tables = (ap (map (λ (t : Table). t.rows)) stores ∙ map_again (λ (d : TableDef). empty_table d.indexes) (λ (t : Table). t.rows) schema.tables) i }
+  empty_seen = λ i. record { schema = same i; bytes_max = inside.bytes_max; tables = (ap (map (λ (t : Table). t.rows)) stores ∙ map_again empty_table (λ (t : Table). t.rows) schema.tables) i }
 
   pub empty_inside : inside.total ≡ 0 → IsValid schema → inside.bytes_max ≤ most_bytes → IsInside inside
   empty_inside nought valid most = record {
     valid = subst IsValidState (sym empty_seen) (empty_valid schema inside.bytes_max valid most);
     counted = nought ∙ sym (ap total empty_seen ∙ empty_total schema inside.bytes_max);
-    keys = ap (map (λ (t : Table). t.key)) stores ∙ map_again (λ (d : TableDef). empty_table d.indexes) (λ (t : Table). t.key) schema.tables ∙ ap (λ (s : Schema). map (λ (d : TableDef). primary_of d.indexes) s.tables) (sym same);
-    orders = ap (map (λ (t : Table). t.orders)) stores ∙ map_again (λ (d : TableDef). empty_table d.indexes) (λ (t : Table). t.orders) schema.tables ∙ ap (λ (s : Schema). map (λ (d : TableDef). parts_of d.indexes) s.tables) (sym same);
+    keys = ap (map (λ (t : Table). t.key)) stores ∙ map_again empty_table (λ (t : Table). t.key) schema.tables ∙ ap (λ (s : Schema). map (λ (d : TableDef). primary_of d.indexes) s.tables) (sym same);
+    counted_columns = ap (map (λ (t : Table). t.counted)) stores ∙ map_again empty_table (λ (t : Table). t.counted) schema.tables ∙ ap (λ (s : Schema). map (λ (d : TableDef). counted_of d.columns) s.tables) (sym same);
+    orders = ap (map (λ (t : Table). t.orders)) stores ∙ map_again empty_table (λ (t : Table). t.orders) schema.tables ∙ ap (λ (s : Schema). map (λ (d : TableDef). parts_of d.indexes) s.tables) (sym same);
   }

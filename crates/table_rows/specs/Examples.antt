@@ -1,5 +1,5 @@
 -- A small table, written out.
-use Rattle.std.specs.Prelude.{◌≡◌, ℕ, ◌<◌, length, List, [], ◌∷◌, codes, true, false, pos}
+use Rattle.std.specs.Prelude.{◌≡◌, ℕ, ◌<◌, length, List, [], ◌∷◌, codes, true, false, ℤ, pos}
 use Rattle.row_types.specs.declared.columns.Column.{Column}
 use Rattle.row_types.specs.declared.columns.Kind.TheVariants.{Int, Bytes}
 use Rattle.row_types.specs.declared.indexes.IndexDef.{IndexDef}
@@ -13,9 +13,9 @@ use Rattle.table_rows.specs.Rows.{State}
 -- A number, a text of 4 bytes at most which may be missing, and another number.
 abbrev pub some_columns : List Column
 some_columns =
-    record { name = codes "id"; kind = Int; null = false; preset = values.Null }
-    ∷ record { name = codes "code"; kind = Bytes 4; null = true; preset = values.Null }
-    ∷ record { name = codes "n"; kind = Int; null = false; preset = values.Null } ∷ []
+    record { name = codes "id"; kind = Int; null = false; auto = false; preset = values.Null }
+    ∷ record { name = codes "code"; kind = Bytes 4; null = true; auto = false; preset = values.Null }
+    ∷ record { name = codes "n"; kind = Int; null = false; auto = false; preset = values.Null } ∷ []
 
 -- An index of each kind.
 abbrev pub some_indexes : List IndexDef
@@ -37,7 +37,7 @@ abbrev pub two_rows : ℕ → State
 two_rows bytes_max = record {
   schema = some_schema;
   bytes_max = bytes_max;
-  tables = record { entries = (some_row 1 values.Null 9, 1) ∷ (some_row 2 (values.Text (codes "ab")) 5, 0) ∷ []; room = 3 } ∷ [];
+  tables = record { entries = (some_row 1 values.Null 9, 1) ∷ (some_row 2 (values.Text (codes "ab")) 5, 0) ∷ []; room = 3; counter = 0 } ∷ [];
 }
 
 -- A row of 88 bytes.
@@ -47,6 +47,27 @@ third_row = some_row 3 (values.Text (codes "abcd")) 7
 -- The slot with this number.
 abbrev pub slot_named : ℕ → SlotRef
 slot_named number = record { 0 = number }
+
+-- A table with a counted id, and the row (1, 7) in slot 0, and a second slot; and this counter.
+abbrev pub numbered : ℕ → State
+numbered counter = record {
+  schema = record {
+    tables = record {
+      db = codes "test";
+      name = codes "a";
+      columns =
+          record { name = codes "id"; kind = Int; null = false; auto = true; preset = values.Null }
+          ∷ record { name = codes "v"; kind = Int; null = true; auto = false; preset = values.Null } ∷ [];
+      indexes = record { name = codes "PRIMARY"; kind = Primary; parts = 0 ∷ [] } ∷ [];
+    } ∷ [];
+  };
+  bytes_max = 1000;
+  tables = record { entries = (values.Int (pos 1) ∷ values.Int (pos 7) ∷ [], 0) ∷ []; room = 2; counter = counter } ∷ [];
+}
+
+-- A row with this id.
+abbrev pub numbered_row : ℤ → List Value
+numbered_row id = values.Int id ∷ values.Null ∷ []
 
 -- What a test keeps: the table.
 pub record IsPlay (state : State) : Type 0 where

@@ -7,6 +7,7 @@ pub mod Marks
 pub mod StoreInside
 pub mod Cuts
 pub mod Rows
+pub mod Counters
 pub mod Indexes
 pub mod Slots
 pub mod Sizes

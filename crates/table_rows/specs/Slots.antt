@@ -6,7 +6,8 @@ use Rattle.index_tree.specs.Ordered.{with_item}
 use Rattle.row_types.specs.declared.values.Value.{Value}
 use Rattle.row_types.specs.declared.indexes.IndexDef.{IndexDef}
 use Rattle.table_rows.specs.Entries.{Entry, entry_cmp}
-use Rattle.table_rows.specs.Rows.{Rows, State, indexes_of, entries_of, with_entries}
+use Rattle.table_rows.specs.Counters.{raised}
+use Rattle.table_rows.specs.Rows.{Rows, State, indexes_of, entries_of, counted_at, counter_of, with_counted, with_entries}
 use Rattle.table_rows.specs.Indexes.{primary_of}
 
 -- Whether an entry is the one in this slot.
@@ -55,10 +56,14 @@ row_at state table slot = row_of slot (entries_of state table)
 abbrev pub row_found : State → ℕ → ℕ → Option (List Value)
 row_found state table slot = row_if slot (entries_of state table)
 
--- The state with this row in this slot of a table, whatever it had before.
+-- Its entries with this row in this slot, whatever it had before.
+abbrev pub entries_with : State → ℕ → ℕ → List Value → List Entry
+entries_with state table slot row = with_row (indexes_of state table) slot row (entries_of state table)
+
+-- The state with this row in this slot of a table, and the counter above its value.
 abbrev pub with_row_at : State → ℕ → ℕ → List Value → State
 with_row_at state table slot row =
-    with_entries state table (with_row (indexes_of state table) slot row (entries_of state table))
+    with_counted state table (entries_with state table slot row) (raised (counted_at state table) row (counter_of state table))
 
 -- The state without the row in this slot.
 abbrev pub without_at : State → ℕ → ℕ → State

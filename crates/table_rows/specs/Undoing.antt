@@ -1,9 +1,9 @@
 -- Taking changes back.
 use Rattle.std.specs.Prelude.{◌≡◌, ℕ, ◌<◌, true, List, [], ◌∷◌, length, reverse, drop}
 use Rattle.table_rows.specs.declared.undo.Undo.{Undo}
-use Rattle.table_rows.specs.declared.undo.Undo.TheVariants.{Put, Replaced, Deleted}
-use Rattle.table_rows.specs.Rows.{State, rows_of}
-use Rattle.table_rows.specs.Slots.{IsVacant, is_live_in, with_row_at, without_at}
+use Rattle.table_rows.specs.declared.undo.Undo.TheVariants.{Put, Replaced, Deleted, Count}
+use Rattle.table_rows.specs.Rows.{State, rows_of, entries_of, with_entries, with_counted, with_counter}
+use Rattle.table_rows.specs.Slots.{IsVacant, is_live_in, without, entries_with}
 use Rattle.table_rows.specs.Valid.{IsValidState}
 
 -- What to take back, from the oldest change to the newest, and how many more find room.
@@ -13,21 +13,25 @@ pub record Undos : Type 0 where
 
 -- The table that was changed.
 abbrev pub table_of : Undo → ℕ
-table_of (Put table slot) = table
-table_of (Replaced table slot row) = table
+table_of (Put table slot counter) = table
+table_of (Replaced table slot row counter) = table
 table_of (Deleted table slot row) = table
+table_of (Count table counter) = table
 
--- The state before a change: without the row that was put, or with the row that was replaced or deleted.
+-- The state before a change: without the row that was put, or with the row that was replaced or deleted, and with the
+-- counter from before.
 abbrev pub undone : Undo → State → State
-undone (Put table slot) state = without_at state table slot.0
-undone (Replaced table slot row) state = with_row_at state table slot.0 row
-undone (Deleted table slot row) state = with_row_at state table slot.0 row
+undone (Put table slot counter) state = with_counted state table (without slot.0 (entries_of state table)) counter
+undone (Replaced table slot row counter) state = with_counted state table (entries_with state table slot.0 row) counter
+undone (Deleted table slot row) state = with_entries state table (entries_with state table slot.0 row)
+undone (Count table counter) state = with_counter state table counter
 
 -- The slot has a row, or has none, as the change left it.
 abbrev pub IsAsLeft : Undo → State → Type 0
-IsAsLeft (Put table slot) state = is_live_in state table slot.0 ≡ true
-IsAsLeft (Replaced table slot row) state = is_live_in state table slot.0 ≡ true
+IsAsLeft (Put table slot counter) state = is_live_in state table slot.0 ≡ true
+IsAsLeft (Replaced table slot row counter) state = is_live_in state table slot.0 ≡ true
 IsAsLeft (Deleted table slot row) state = IsVacant slot.0 (rows_of state table)
+IsAsLeft (Count table counter) state = Unit {0}
 
 -- A change can be taken back where its slot is as it left it, and where the state before it is valid.
 pub record CanUndo (undo : Undo) (state : State) : Type 0 where

@@ -1,16 +1,17 @@
 //! The words of the contracts, worked at a table with two rows.
-ghost use Rattle.std.specs.Prelude.{◌≡◌, ◌+◌, [], ◌∷◌, codes, Some, None, pos, true, false};
+ghost use Rattle.std.specs.Prelude.{◌≡◌, ◌+◌, ◌^◌, [], ◌∷◌, codes, Some, None, pos, negsuc, true, false};
 ghost use Rattle.row_types.specs.declared.values.Value.TheVariants as values;
 ghost use Rattle.table_rows.specs.declared.verdict.Verdict.TheVariants.{Fine, Dup, Null, Full};
-ghost use Rattle.table_rows.specs.declared.undo.Undo.TheVariants.{Put, Replaced, Deleted};
-ghost use Rattle.table_rows.specs.Rows.{entries_of, room_of};
+ghost use Rattle.table_rows.specs.declared.undo.Undo.TheVariants.{Put, Deleted};
+ghost use Rattle.table_rows.specs.Rows.{entries_of, room_of, counted_at, counter_of};
+ghost use Rattle.table_rows.specs.Counters.{counter_if, next_if};
 ghost use Rattle.table_rows.specs.Slots.{row_at, row_found, with_row_at, without_at};
 ghost use Rattle.table_rows.specs.Sizes.{total};
 ghost use Rattle.table_rows.specs.Checks.{verdict_of};
 ghost use Rattle.table_rows.specs.Walks.{walk_of, keyed, slot_of, begun, gone_on};
 ghost use Rattle.table_rows.specs.Widths.{with_slots};
 ghost use Rattle.table_rows.specs.Undoing.{undone};
-ghost use Rattle.table_rows.specs.Examples.{some_indexes, some_row, two_rows, third_row, slot_named};
+ghost use Rattle.table_rows.specs.Examples.{some_indexes, some_row, two_rows, third_row, slot_named, numbered, numbered_row};
 
 /// What is said of a third row, where 255 bytes are just enough for it.
 pub fn worked_verdicts()
@@ -57,4 +58,20 @@ pub fn worked_keys_and_slots()
     ensures vacant { row_found (two_rows 255) 0 2 ≡ None }
     ensures at_hand { with_slots (two_rows 255) 0 1 ≡ two_rows 255 }
     ensures three_more { room_of (with_slots (two_rows 255) 0 4) 0 ≡ 6 }
+{}
+
+/// How a counter goes, from 2 on.
+pub fn worked_counters()
+    ensures above { counter_of (with_row_at (numbered 2) 0 1 (numbered_row (pos 10))) 0 ≡ 11 }
+    ensures the_next { counter_of (with_row_at (numbered 2) 0 1 (numbered_row (pos 2))) 0 ≡ 3 }
+    ensures below { counter_of (with_row_at (numbered 20) 0 1 (numbered_row (pos 10))) 0 ≡ 20 }
+    ensures less_than_zero { counter_of (with_row_at (numbered 2) 0 1 (numbered_row (negsuc 4))) 0
+        ≡ 2 }
+    ensures a_deletion_leaves_it { counter_of (without_at (numbered 2) 0 0) 0 ≡ 2 }
+    ensures taken_back { undone (Put 0 (slot_named 1) 2)
+        (with_row_at (numbered 2) 0 1 (numbered_row (pos 10))) ≡ numbered 2 }
+    ensures next { next_if (Some 0) 2 ≡ Some (pos 2) }
+    ensures none_left { next_if (Some 0) (2 ^ 63) ≡ None }
+    ensures no_counter { counter_if (counted_at (two_rows 255) 0) (counter_of (two_rows 255) 0)
+        ≡ None }
 {}

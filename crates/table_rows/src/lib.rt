@@ -6,10 +6,14 @@
 //! | `new`, `reserve` | empty tables; slots for more rows. Only these take memory |
 //! | `check_put` | what bars a row: a NULL, a clash in an index, want of space, or nothing |
 //! | `put`, `replace`, `delete` | a change, noted in an `UndoList` |
-//! | `undo_to` | takes back all changes since a mark |
+//! | `undo_to` | takes back all changes since a mark, of the counters too |
+//! | `counter`, `next_number`, `raise_counter` | the counter of a counted column |
 //! | `rows`, `walk` | all rows; those of an index from a key on, up or down. No search a row |
 //! | `find_key`, `get`, `row` | the slot of a primary key; the row in a slot |
 //! | `seek`, `step` | a walk by slots, with a search a row, for walks between changes |
+//!
+//! A table with a counted column has a counter from 1 to 2^63, which is above every value of that
+//! column: `put` and `replace` raise it, and nothing lowers it but `undo_to`.
 //!
 //! A row is named by its slot, from the change that puts it there to the one that deletes it.
 //! Contracts see a table as the list of its rows, each beside its slot, ascending by primary key.
@@ -32,6 +36,7 @@
 mod bound;
 mod cells;
 mod checks;
+mod counters;
 mod cuts;
 mod digest;
 mod dups;
@@ -57,7 +62,7 @@ mod walk;
 pub use bound::Bound;
 pub use cells::has_key;
 pub use edge::Edge;
-pub use laws::{worked_changes, worked_keys_and_slots, worked_verdicts};
+pub use laws::{worked_changes, worked_counters, worked_keys_and_slots, worked_verdicts};
 pub use slot_ref::SlotRef;
 pub use tables::Tables;
 pub use undo::Undo;

@@ -1,18 +1,20 @@
 //! The rows of one table, by their entries.
-ghost use Rattle.std.specs.Prelude.{◌≡◌, ◌+◌, ◌<◌, ◌≤◌, [], length, true, false, Option, Some, None, OnOk, OnErr, IfOk, IfSome, map, option_copied};
+ghost use Rattle.std.specs.Prelude.{◌≡◌, ◌+◌, ◌<◌, ◌≤◌, ◌^◌, [], length, true, false, Option, Some, None, OnOk, OnErr, IfOk, IfSome, map, option_copied};
 ghost use Rattle.row_types.specs.declared.tables.TableDef.{TableDef};
 ghost use Rattle.table_rows.specs.StoreWalks.{first_like, slot_in, IsNew};
 ghost use Rattle.table_rows.specs.Rows.{Rows};
-ghost use Rattle.std.specs.List.{list_any};
+ghost use Rattle.std.specs.List.{All, list_any};
+ghost use Rattle.table_rows.specs.Counters.{raised};
 ghost use Rattle.row_types.specs.Valid.{is_primary};
 ghost use Rattle.row_types.specs.declared.indexes.IndexDef.{IndexDef};
 ghost use Rattle.table_rows.specs.Indexes.{primary_of, parts_of, parts_at};
 ghost use Rattle.table_rows.specs.Slots.{IsVacant, is_live, row_of, row_if, without};
-ghost use Rattle.table_rows.specs.Table.{Table, empty_table, with_room, with_row_in, without_in, parts_by, columns_by, walk_by};
+ghost use Rattle.table_rows.specs.Table.{Table, empty_table, with_room, with_count, with_row_in, without_in, parts_by, columns_by, walk_by};
 ghost use Rattle.table_rows.specs.Walks.{begun, gone_on, walked};
 ghost use Rattle.table_rows.specs.Widths.{room_for};
 
 use crate::bound::Bound;
+use crate::counters::{above_row, counted_of, first_counter};
 use crate::edge::Edge;
 use crate::store::RowStore;
 use crate::walk::Walk;
@@ -20,10 +22,12 @@ use row_types::{IndexDef, IndexKind, Row, RowKey, TableDef, Value};
 use std::alloc::{AllocError, Global};
 use std::marker::Model;
 
-/// A table's rows, in the order of its primary key and of each index.
+/// A table's rows, in the order of its primary key and of each index, and its counter.
 #[derive(Drop)]
 pub(crate) struct OneTable {
     store: RowStore,
+    counted: Option<u32>,
+    counter: u64,
 }
 
 impl Model for OneTable {
@@ -31,20 +35,27 @@ impl Model for OneTable {
 
     ghost Value = { Table };
 
-    ghost view = { λ table. table_in table.store };
+    ghost view = { λ table. table_in table.store table.counted table.counter };
 }
 
 impl OneTable {
-    /// A table with these indexes, and no row.
-    pub(crate) fn new(alloc: Global, indexes: &[IndexDef]) -> Result<OneTable, AllocError>
-        ensures { IfOk result (λ table. table ≡ empty_table indexes.now) }
+    /// A table of this shape, and no row.
+    pub(crate) fn new(alloc: Global, def: &TableDef) -> Result<OneTable, AllocError>
+        requires { length def.now.columns < 2 ^ 32 }
+        ensures { IfOk result (λ table. table ≡ empty_table def.now) }
     {
+        let indexes = def.indexes.as_slice();
         let key = Vec::from_slice(alloc, primary_of(indexes))?;
         let mut store = RowStore::new(alloc, key);
         for index in indexes {
             store.add_order(alloc, Vec::from_slice(alloc, index.parts.as_slice())?)?;
         }
-        Ok(OneTable { store })
+        let counted = counted_of(def.columns.as_slice());
+        Ok(OneTable {
+            store,
+            counted,
+            counter: first_counter(counted),
+        })
     }
 
     /// Sees to it that `n` more rows find a slot.
@@ -86,6 +97,36 @@ impl OneTable {
     {
         let _ = self.store.count();
         self.store.replace(slot, row)
+    }
+
+    /// Sets the counter.
+    pub(crate) fn set_counter(&mut self, counter: u64)
+        ensures { self.new ≡ with_count self.old counter }
+    {
+        let _ = self.store.count();
+        self.counter = counter;
+    }
+
+    /// The counted column, if there is one.
+    pub(crate) fn counted(&self) -> Option<u32>
+        ensures { result ≡ self.now.counted }
+    {
+        self.counted
+    }
+
+    /// The counter.
+    pub(crate) fn counter(&self) -> u64
+        ensures { result ≡ self.now.rows.counter }
+    {
+        self.counter
+    }
+
+    /// The counter once this row stands in the table.
+    pub(crate) fn raised(&self, row: &Row) -> u64
+        ensures raised { result ≡ raised self.now.counted row.now self.now.rows.counter }
+        ensures most { self.now.rows.counter ≤ 2 ^ 63 → result ≤ 2 ^ 63 }
+    {
+        self.counter.max(above_row(self.counted, row))
     }
 
     /// Takes a row out of its slot, and hands it back. Takes no memory.
@@ -179,12 +220,12 @@ impl OneTable {
 
 /// A table for each of these, without a row.
 pub(crate) fn empty_tables(alloc: Global, defs: &[TableDef]) -> Result<Vec<OneTable>, AllocError>
-    ensures { IfOk result
-        (λ tables. tables.items ≡ map (λ (d : TableDef). empty_table d.indexes) defs.now) }
+    requires { All (λ (d : TableDef). length d.columns < 2 ^ 32) defs.now }
+    ensures { IfOk result (λ tables. tables.items ≡ map empty_table defs.now) }
 {
     let mut tables = Vec::new(alloc);
     for def in defs {
-        tables.push(OneTable::new(alloc, def.indexes.as_slice())?)?;
+        tables.push(OneTable::new(alloc, def)?)?;
     }
     Ok(tables)
 }

@@ -1,7 +1,8 @@
 //! The rows of all tables.
 ghost use Rattle.std.specs.Prelude.{◌≡◌, ◌+◌, ◌<◌, ◌≤◌, length, OnOk, OnErr, IfOk};
 ghost use Rattle.row_types.specs.Valid.{IsValid, IsTable};
-ghost use Rattle.table_rows.specs.Rows.{State, def_of, entries_of, rows_of, room_of};
+ghost use Rattle.table_rows.specs.Counters.{counter_if, next_if};
+ghost use Rattle.table_rows.specs.Rows.{State, def_of, entries_of, rows_of, room_of, counted_at, counter_of};
 ghost use Rattle.table_rows.specs.Sizes.{total, most_bytes};
 ghost use Rattle.table_rows.specs.Valid.{AreValidRows, IsValidState};
 ghost use Rattle.table_rows.specs.Widths.{with_slots, empty_state};
@@ -11,6 +12,7 @@ mod checking;
 mod inner;
 mod walks;
 
+use crate::counters::FULL;
 use crate::one_table::{OneTable, empty_tables};
 use crate::undo_list::UndoList;
 use row_types::{Schema, TableDef};
@@ -87,6 +89,39 @@ impl Tables {
         ensures { result ≡ length (entries_of self.now table) }
     {
         self.store(table).count() as u64
+    }
+
+    /// The counted column of a table, if it has one.
+    pub fn counted(&self, table: u32) -> Option<u32>
+        requires { table < length self.now.tables }
+        ensures { result ≡ counted_at self.now table }
+    {
+        self.store(table).counted()
+    }
+
+    /// The counter of a table, or None where it has no counted column.
+    pub fn counter(&self, table: u32) -> Option<u64>
+        requires { table < length self.now.tables }
+        ensures { result ≡ counter_if (counted_at self.now table) (counter_of self.now table) }
+    {
+        match self.store(table).counted() {
+            None => None,
+            Some(_) => Some(self.store(table).counter()),
+        }
+    }
+
+    /// The number that is drawn next, or None where the table has no counted column or its counter
+    /// is 2^63.
+    pub fn next_number(&self, table: u32) -> Option<i64>
+        requires { table < length self.now.tables }
+        ensures { result ≡ next_if (counted_at self.now table) (counter_of self.now table) }
+    {
+        let counter = self.counter(table)?;
+        if counter < FULL {
+            Some(counter as i64)
+        } else {
+            None
+        }
     }
 
     /// The bytes that all rows count.

@@ -1,11 +1,11 @@
 //! Changes of the rows, each noted so that it can be taken back.
-ghost use Rattle.std.specs.Prelude.{◌≡◌, ℕ, ◌+◌, ◌<◌, ◌≤◌, [], ◌∷◌, ◌++◌, length, take, true, Some, None};
-ghost use Rattle.table_rows.specs.Rows.{def_of, entries_of, rows_of, room_of};
+ghost use Rattle.std.specs.Prelude.{◌≡◌, ℕ, ◌+◌, ◌<◌, ◌≤◌, ◌^◌, [], ◌∷◌, ◌++◌, length, take, true, Some, None, IsSome};
+ghost use Rattle.table_rows.specs.Rows.{def_of, entries_of, rows_of, room_of, counted_at, counter_of, with_counter};
 ghost use Rattle.table_rows.specs.Slots.{IsVacant, is_live_in, row_at, with_row_at, without, without_at};
 ghost use Rattle.table_rows.specs.Sizes.{total_with, most_bytes};
 ghost use Rattle.table_rows.specs.Checks.{IsPlaceable};
 ghost use Rattle.table_rows.specs.Undoing.{since, CanUndo, AreUndoable, undone, undone_all, LeadsBack};
-ghost use Rattle.table_rows.specs.declared.undo.Undo.TheVariants.{Put, Replaced, Deleted};
+ghost use Rattle.table_rows.specs.declared.undo.Undo.TheVariants.{Put, Replaced, Deleted, Count};
 
 use super::Tables;
 use crate::slot_ref::SlotRef;
@@ -14,7 +14,7 @@ use crate::undo_list::UndoList;
 use row_types::Row;
 
 impl Tables {
-    /// Puts a new row into a slot without one. Takes no memory.
+    /// Puts a new row into a slot without one, and raises the counter above it. Takes no memory.
     pub fn put(&mut self, table: u32, row: Row, undo: &mut UndoList)
         requires table { table < length self.old.tables }
         requires row { IsPlaceable (def_of self.old table) row (entries_of self.old table) }
@@ -23,16 +23,18 @@ impl Tables {
         requires spare { 0 < undo.old.spare }
         ensures put { (slot : ℕ) × IsVacant slot (rows_of self.old table)
             × (self.new ≡ with_row_at self.old table slot row)
-            × (undo.new.entries ≡ undo.old.entries ++ Put table (record { 0 = slot }) ∷ []) }
+            × (undo.new.entries ≡ undo.old.entries
+            ++ Put table (record { 0 = slot }) (counter_of self.old table) ∷ []) }
         ensures spare { undo.new.spare + 1 ≡ undo.old.spare }
         ensures back { LeadsBack
             (since (length undo.old.entries) undo.new.entries) self.new self.old }
     {
+        let before = self.store(table).counter();
         let slot = self.put_new(table, row);
-        undo.push_reserved(Undo::Put(table, SlotRef(slot)));
+        undo.push_reserved(Undo::Put(table, SlotRef(slot), before));
     }
 
-    /// Puts another row into a slot that has one. Takes no memory.
+    /// Puts another row into a slot that has one, and raises the counter above it. Takes no memory.
     pub fn replace(&mut self, table: u32, slot: SlotRef, row: Row, undo: &mut UndoList)
         requires table { table < length self.old.tables }
         requires live { is_live_in self.old table slot.0 ≡ true }
@@ -42,17 +44,20 @@ impl Tables {
         requires spare { 0 < undo.old.spare }
         ensures replaced { self.new ≡ with_row_at self.old table slot.0 row }
         ensures pushed { undo.new.entries
-            ≡ undo.old.entries ++ Replaced table slot (row_at self.old table slot.0) ∷ [] }
+            ≡ undo.old.entries
+            ++ Replaced table slot (row_at self.old table slot.0) (counter_of self.old table) ∷ [] }
         ensures spare { undo.new.spare + 1 ≡ undo.old.spare }
         ensures back { LeadsBack
             (since (length undo.old.entries) undo.new.entries) self.new self.old }
     {
         let _ = &self.stores;
-        let old = self.exchange(table, slot.0, row);
-        undo.push_reserved(Undo::Replaced(table, slot, old));
+        let before = self.store(table).counter();
+        let counter = self.store(table).raised(&row);
+        let old = self.exchange(table, slot.0, row, counter);
+        undo.push_reserved(Undo::Replaced(table, slot, old, before));
     }
 
-    /// Lets a row go, and its slot have none. Takes no memory.
+    /// Lets a row go, and its slot have none. The counter stays. Takes no memory.
     pub fn delete(&mut self, table: u32, slot: SlotRef, undo: &mut UndoList)
         requires table { table < length self.old.tables }
         requires live { is_live_in self.old table slot.0 ≡ true }
@@ -66,6 +71,26 @@ impl Tables {
     {
         let old = self.take_out(table, slot.0);
         undo.push_reserved(Undo::Deleted(table, slot, old));
+    }
+
+    /// Raises the counter of a table with a counted column. Takes no memory.
+    pub fn raise_counter(&mut self, table: u32, to: u64, undo: &mut UndoList)
+        requires table { table < length self.old.tables }
+        requires counted { IsSome (counted_at self.old table) }
+        requires above { counter_of self.old table < to }
+        requires most { to ≤ 2 ^ 63 }
+        requires spare { 0 < undo.old.spare }
+        ensures raised { self.new ≡ with_counter self.old table to }
+        ensures pushed { undo.new.entries
+            ≡ undo.old.entries ++ Count table (counter_of self.old table) ∷ [] }
+        ensures spare { undo.new.spare + 1 ≡ undo.old.spare }
+        ensures back { LeadsBack
+            (since (length undo.old.entries) undo.new.entries) self.new self.old }
+    {
+        let _ = &self.stores;
+        let before = self.store(table).counter();
+        self.count_to(table, to);
+        undo.push_reserved(Undo::Count(table, before));
     }
 
     /// Takes back all changes since a mark. Takes no memory.
@@ -88,13 +113,15 @@ impl Tables {
         ensures { self.new ≡ undone undo self.old }
     {
         match undo {
-            Undo::Put(table, slot) => {
+            Undo::Put(table, slot, counter) => {
                 let _ = self.take_out(table, slot.0);
+                self.count_to(table, counter);
             }
-            Undo::Replaced(table, slot, row) => {
-                let _ = self.exchange(table, slot.0, row);
+            Undo::Replaced(table, slot, row, counter) => {
+                let _ = self.exchange(table, slot.0, row, counter);
             }
             Undo::Deleted(table, slot, row) => self.put_back(table, slot.0, row),
+            Undo::Count(table, counter) => self.count_to(table, counter),
         }
     }
 }

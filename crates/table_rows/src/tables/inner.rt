@@ -1,7 +1,7 @@
 //! Changes of the rows, without a note of them.
 ghost use Rattle.std.specs.Prelude.{◌≡◌, ◌+◌, ◌<◌, ◌≤◌, length, true, None, OnOk, OnErr};
-ghost use Rattle.table_rows.specs.Rows.{def_of, entries_of, rows_of, room_of};
-ghost use Rattle.table_rows.specs.Slots.{IsVacant, is_live_in, row_at, with_row_at, without_at};
+ghost use Rattle.table_rows.specs.Rows.{def_of, entries_of, rows_of, room_of, with_entries, with_counted, with_counter};
+ghost use Rattle.table_rows.specs.Slots.{IsVacant, is_live_in, row_at, entries_with, with_row_at, without_at};
 ghost use Rattle.table_rows.specs.Sizes.{total_with, most_bytes};
 ghost use Rattle.table_rows.specs.Checks.{IsPlaceable};
 ghost use Rattle.table_rows.specs.Valid.{IsValidState};
@@ -36,7 +36,9 @@ impl Tables {
     {
         let size = row_size(&row);
         let store = &mut self.stores[table as usize];
+        let counter = store.raised(&row);
         let slot = store.put(row);
+        store.set_counter(counter);
         self.total += size;
         slot
     }
@@ -45,8 +47,9 @@ impl Tables {
     pub(super) fn put_back(&mut self, table: u32, slot: u32, row: Row)
         requires table { table < length self.old.tables }
         requires vacant { IsVacant slot (rows_of self.old table) }
-        requires valid { IsValidState (with_row_at self.old table slot row) }
-        ensures { self.new ≡ with_row_at self.old table slot row }
+        requires valid { IsValidState
+            (with_entries self.old table (entries_with self.old table slot row)) }
+        ensures { self.new ≡ with_entries self.old table (entries_with self.old table slot row) }
     {
         let size = row_size(&row);
         let store = &mut self.stores[table as usize];
@@ -54,17 +57,20 @@ impl Tables {
         self.total += size;
     }
 
-    /// Puts another row into a slot, and hands the old one back.
-    pub(super) fn exchange(&mut self, table: u32, slot: u32, row: Row) -> Row
+    /// Puts another row into a slot, and hands the old one back. The counter becomes this one.
+    pub(super) fn exchange(&mut self, table: u32, slot: u32, row: Row, counter: u64) -> Row
         requires table { table < length self.old.tables }
         requires live { is_live_in self.old table slot ≡ true }
-        requires valid { IsValidState (with_row_at self.old table slot row) }
+        requires valid { IsValidState
+            (with_counted self.old table (entries_with self.old table slot row) counter) }
         ensures handed { result ≡ row_at self.old table slot }
-        ensures exchanged { self.new ≡ with_row_at self.old table slot row }
+        ensures exchanged { self.new
+            ≡ with_counted self.old table (entries_with self.old table slot row) counter }
     {
         let size = row_size(&row);
         let store = &mut self.stores[table as usize];
         let old = store.replace(slot, row);
+        store.set_counter(counter);
         self.total = self.total - row_size(&old) + size;
         old
     }
@@ -81,5 +87,15 @@ impl Tables {
         let old = store.take(slot);
         self.total -= row_size(&old);
         old
+    }
+
+    /// Sets the counter of a table.
+    pub(super) fn count_to(&mut self, table: u32, counter: u64)
+        requires table { table < length self.old.tables }
+        requires valid { IsValidState (with_counter self.old table counter) }
+        ensures { self.new ≡ with_counter self.old table counter }
+    {
+        let store = &mut self.stores[table as usize];
+        store.set_counter(counter);
     }
 }

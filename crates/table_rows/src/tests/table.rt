@@ -1,5 +1,5 @@
 //! The table of the examples, and its rows.
-ghost use Rattle.std.specs.Prelude.{◌≡◌, ◌≤◌, IfOk};
+ghost use Rattle.std.specs.Prelude.{◌≡◌, ◌≤◌, IfOk, false};
 ghost use Rattle.row_types.specs.declared.values.Value.TheVariants as values;
 ghost use Rattle.table_rows.specs.Sizes.{most_bytes};
 ghost use Rattle.table_rows.specs.Checks.{IsRow};
@@ -16,12 +16,19 @@ pub(super) fn column(
     null: bool,
 ) -> Result<Column, AllocError>
     ensures { IfOk result (λ column.
-        column ≡ record { name = name.now; kind = kind; null = null; preset = values.Null }) }
+        column ≡ record {
+          name = name.now;
+          kind = kind;
+          null = null;
+          auto = false;
+          preset = values.Null;
+        }) }
 {
     Ok(Column {
         name: ByteText::of(alloc, name)?,
         kind,
         null,
+        auto: false,
         preset: Value::Null,
     })
 }

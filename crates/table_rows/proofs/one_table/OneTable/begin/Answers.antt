@@ -12,16 +12,16 @@ use Rattle.table_rows.proofs.one_table.OneTable.begin.Goals as goal
 pub returns-then-down-clause-begun : goal.returns-then-down-clause-begun
 returns-then-down-clause-begun c =
     let s = c.self.inside.store in
-    let seen : c.last_to.result ≡ slot_in (begun true (columns_by (table_in s) c.args.index) c.args.edge.now (walk_by (table_in s) c.args.index)) =
-    c.last_to.ensures.last ∙ ap (λ (es : List Entry). slot_in (last_to (walk_columns s c.args.index) c.args.edge.now es)) (walk_seen s c.args.index c.count.ensures.keyed) in
+    let seen : c.last_to.result ≡ slot_in (begun true (columns_by (table_in s c.self.inside.counted c.self.inside.counter) c.args.index) c.args.edge.now (walk_by (table_in s c.self.inside.counted c.self.inside.counter) c.args.index)) =
+    c.last_to.ensures.last ∙ ap (λ (es : List Entry). slot_in (last_to (walk_columns s c.args.index) c.args.edge.now es)) (walk_seen c.self.inside.counted c.self.inside.counter s c.args.index c.count.ensures.keyed) in
     subst (λ (b : Bool). c.last_to.result ≡ slot_in (begun b (columns_by c.args.self.now c.args.index) c.args.edge.now (walk_by c.args.self.now c.args.index))) (sym c.if-down.true)
     (subst (λ (t : Table). c.last_to.result ≡ slot_in (begun true (columns_by t c.args.index) c.args.edge.now (walk_by t c.args.index))) c.self.view_is seen)
 
 pub returns-else-down-clause-begun : goal.returns-else-down-clause-begun
 returns-else-down-clause-begun c =
     let s = c.self.inside.store in
-    let seen : c.first_from.result ≡ slot_in (begun false (columns_by (table_in s) c.args.index) c.args.edge.now (walk_by (table_in s) c.args.index)) =
-    c.first_from.ensures.first ∙ ap (λ (es : List Entry). slot_in (first_from (walk_columns s c.args.index) c.args.edge.now es)) (walk_seen s c.args.index c.count.ensures.keyed) in
+    let seen : c.first_from.result ≡ slot_in (begun false (columns_by (table_in s c.self.inside.counted c.self.inside.counter) c.args.index) c.args.edge.now (walk_by (table_in s c.self.inside.counted c.self.inside.counter) c.args.index)) =
+    c.first_from.ensures.first ∙ ap (λ (es : List Entry). slot_in (first_from (walk_columns s c.args.index) c.args.edge.now es)) (walk_seen c.self.inside.counted c.self.inside.counter s c.args.index c.count.ensures.keyed) in
     subst (λ (b : Bool). c.first_from.result ≡ slot_in (begun b (columns_by c.args.self.now c.args.index) c.args.edge.now (walk_by c.args.self.now c.args.index))) (sym c.if-down.false)
     (subst (λ (t : Table). c.first_from.result ≡ slot_in (begun false (columns_by t c.args.index) c.args.edge.now (walk_by t c.args.index))) c.self.view_is seen)
 

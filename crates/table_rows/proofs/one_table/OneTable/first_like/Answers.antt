@@ -9,6 +9,6 @@ use Rattle.table_rows.proofs.one_table.OneTable.first_like.Goals as goal
 pub returns : goal.returns
 returns c =
     let s = c.self.inside.store in
-    let seen : c.first_like.result ≡ slot_in (first_like (parts_by (table_in s) c.args.index) c.args.row.now (walk_by (table_in s) c.args.index)) =
-    c.first_like.ensures.first ∙ ap (λ (es : List Entry). slot_in (first_like (order_of s c.args.index) c.args.row.now es)) (walk_seen s c.args.index c.count.ensures.keyed) in
+    let seen : c.first_like.result ≡ slot_in (first_like (parts_by (table_in s c.self.inside.counted c.self.inside.counter) c.args.index) c.args.row.now (walk_by (table_in s c.self.inside.counted c.self.inside.counter) c.args.index)) =
+    c.first_like.ensures.first ∙ ap (λ (es : List Entry). slot_in (first_like (order_of s c.args.index) c.args.row.now es)) (walk_seen c.self.inside.counted c.self.inside.counter s c.args.index c.count.ensures.keyed) in
     subst (λ (t : Table). c.first_like.result ≡ slot_in (first_like (parts_by t c.args.index) c.args.row.now (walk_by t c.args.index))) c.self.view_is seen

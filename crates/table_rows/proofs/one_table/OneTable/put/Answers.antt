@@ -20,10 +20,10 @@ put-requires-clause-new c =
 pub returns-clause-vacant : goal.returns-clause-vacant
 returns-clause-vacant c =
     let s = c.self.inside.store in
-    subst (λ (t : Table). IsVacant c.put.result t.rows) c.self.view_is (vacant_there s.key s.slots c.put.result c.put.ensures.vacant)
+    subst (λ (t : Table). IsVacant c.put.result t.rows) c.self.view_is (vacant_there s.key s.slots c.self.inside.counter c.put.result c.put.ensures.vacant)
 
 pub returns-clause-row : goal.returns-clause-row
 returns-clause-row c =
     let s = c.self.inside.store in
-    subst (λ (t : Table). IsNew t.key c.args.row t.rows.entries → table_in c.put.new.self ≡ with_row_in t c.put.result c.args.row) c.self.view_is
-    (λ new. put_seen s c.put.new.self c.count.ensures.keyed c.put.result c.args.row c.put.ensures.vacant new c.put.ensures.row) c.requires.new
+    subst (λ (t : Table). IsNew t.key c.args.row t.rows.entries → table_in c.put.new.self c.self.inside.counted c.self.inside.counter ≡ with_row_in t c.put.result c.args.row) c.self.view_is
+    (λ new. put_seen c.self.inside.counted c.self.inside.counter s c.put.new.self c.count.ensures.keyed c.put.result c.args.row c.put.ensures.vacant new c.put.ensures.row) c.requires.new

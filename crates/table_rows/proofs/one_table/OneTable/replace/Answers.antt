@@ -1,6 +1,6 @@
 use Rattle.std.proofs.Common.{◌≡◌, set, true, None, subst}
 use Rattle.table_rows.specs.Entries as store
-use Rattle.table_rows.specs.Entries.{Entry, kept, vacancies, row_under, walk}
+use Rattle.table_rows.specs.Entries.{kept}
 use Rattle.table_rows.specs.StoreWalks.{IsNew}
 use Rattle.table_rows.specs.Slots.{is_live, row_of, without}
 use Rattle.table_rows.specs.Table.{Table, table_in, with_row_in}
@@ -27,5 +27,5 @@ returns-clause-handed c =
 pub returns-clause-row : goal.returns-clause-row
 returns-clause-row c =
     let s = c.self.inside.store in
-    subst (λ (t : Table). IsNew t.key c.args.row (without c.args.slot t.rows.entries) → table_in c.replace.new.self ≡ with_row_in t c.args.slot c.args.row) c.self.view_is
-    (λ new. replaced_seen s c.replace.new.self c.count.ensures.keyed c.args.slot c.replace.result c.args.row c.replace.ensures.handed new c.replace.ensures.row) c.requires.new
+    subst (λ (t : Table). IsNew t.key c.args.row (without c.args.slot t.rows.entries) → table_in c.replace.new.self c.self.inside.counted c.self.inside.counter ≡ with_row_in t c.args.slot c.args.row) c.self.view_is
+    (λ new. replaced_seen c.self.inside.counted c.self.inside.counter s c.replace.new.self c.count.ensures.keyed c.args.slot c.replace.result c.args.row c.replace.ensures.handed new c.replace.ensures.row) c.requires.new

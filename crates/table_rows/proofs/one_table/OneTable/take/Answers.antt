@@ -1,6 +1,5 @@
 use Rattle.std.proofs.Common.{◌≡◌, true, subst}
 use Rattle.table_rows.specs.Entries as store
-use Rattle.table_rows.specs.Entries.{Entry, kept, vacancies, row_under, walk}
 use Rattle.table_rows.specs.Slots.{is_live, row_of}
 use Rattle.table_rows.specs.Table.{Table, table_in, without_in}
 use Rattle.table_rows.proofs.Kept.{live_store, row_there}
@@ -20,5 +19,5 @@ returns-clause-handed c =
 pub returns-clause-gone : goal.returns-clause-gone
 returns-clause-gone c =
     let s = c.self.inside.store in
-    subst (λ (t : Table). table_in c.take.new.self ≡ without_in t c.args.slot) c.self.view_is
-    (taken_seen s c.take.new.self c.count.ensures.keyed c.args.slot c.take.result c.take.ensures.handed c.take.ensures.vacant)
+    subst (λ (t : Table). table_in c.take.new.self c.self.inside.counted c.self.inside.counter ≡ without_in t c.args.slot) c.self.view_is
+    (taken_seen c.self.inside.counted c.self.inside.counter s c.take.new.self c.count.ensures.keyed c.args.slot c.take.result c.take.ensures.handed c.take.ensures.vacant)
