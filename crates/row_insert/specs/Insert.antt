@@ -1,15 +1,18 @@
 -- The row that an insert makes, and what it leaves.
-use Rattle.std.specs.Prelude.{◌≡◌, ℕ, suc, ◌==◌, List, [], ◌∷◌, ◌++◌, Option, Some, None, if◌then◌else◌}
+use Rattle.std.specs.Prelude.{◌≡◌, ℕ, suc, ℤ, ◌==◌, List, [], ◌∷◌, ◌++◌, Option, Some, None, Result, Ok, Err, if◌then◌else◌}
 use Rattle.row_types.specs.declared.values.Value.{Value}
 use Rattle.row_types.specs.declared.columns.Column.{Column}
 use Rattle.request_types.specs.declared.codes.Code.{Code}
 use Rattle.request_types.specs.declared.inserts.InsertSpec.{InsertSpec}
-use Rattle.request_types.specs.Code.{number}
+use Rattle.request_types.specs.Code.{number as number_of}
 use Rattle.table_rows.specs.declared.undo.Undo.{Undo}
 use Rattle.table_rows.specs.declared.undo.Undo.TheVariants.{Put}
-use Rattle.table_rows.specs.Rows.{State, rows_of}
+use Rattle.table_rows.specs.Rows.{State, rows_of, counter_of}
 use Rattle.table_rows.specs.Slots.{IsVacant, with_row_at}
 use Rattle.table_rows.specs.Widths.{with_slots}
+use Rattle.row_insert.specs.declared.drawing.Arrival.{Arrival}
+use Rattle.row_insert.specs.Draw.{coming_to}
+use Rattle.row_insert.specs.Refusal.{refusal_of}
 use Rattle.row_insert.specs.declared.inserts.Inserted.{Inserted}
 use Rattle.row_insert.specs.declared.inserts.Inserted.TheVariants.{Done, Refused}
 
@@ -30,15 +33,23 @@ row_from first (c ∷ cs) numbers values =
 abbrev pub new_row : List Column → InsertSpec → List Value
 new_row columns spec = row_from 0 columns spec.columns spec.values
 
--- What is answered where this is refused, or nothing is.
-abbrev pub answer_to : Option Code → Inserted
-answer_to None = Done
-answer_to (Some code) = Refused (number code)
+-- What is answered where this is refused, or nothing is and this number was drawn.
+abbrev pub answer_to : Option ℤ → Option Code → Inserted
+answer_to number None = Done number
+answer_to number (Some code) = Refused (number_of code)
 
--- The row stands in a slot that was vacant once there was one at least, and its coming is noted.
-pub record IsPut (table : ℕ) (row : List Value) (before after : State) (undos more : List Undo) :
+-- What is answered where this row comes. That no number is left is found before all else.
+abbrev pub insert_answer : State → ℕ → Result Arrival Code → Inserted
+insert_answer state table (Err code) = Refused (number_of code)
+insert_answer state table (Ok coming) = answer_to coming.number (refusal_of state table coming.row None)
+
+-- The row that came, with the number that it drew, stands in a slot that was vacant once there was one at least, and its
+-- coming is noted.
+pub record IsPut (table : ℕ) (asked : List Value) (number : Option ℤ) (before after : State) (undos more : List Undo) :
     Type 0 where
+  pub row : List Value
+  pub comes : coming_to before table asked ≡ Ok (record { row = row; number = number })
   pub slot : ℕ
   pub vacant : IsVacant slot (rows_of (with_slots before table 1) table)
   pub put : after ≡ with_row_at (with_slots before table 1) table slot row
-  pub noted : more ≡ undos ++ Put table (record { 0 = slot }) ∷ []
+  pub noted : more ≡ undos ++ Put table (record { 0 = slot }) (counter_of before table) ∷ []

@@ -1,3 +1,4 @@
 pub mod Refusal
+pub mod Draw
 pub mod Insert
 pub mod Examples

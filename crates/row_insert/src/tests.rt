@@ -18,12 +18,13 @@ fn column(
     preset: Value,
 ) -> Result<Column, AllocError>
     ensures { IfOk result (λ column. column
-        ≡ record { name = name.now; kind = kind; null = null; preset = preset }) }
+        ≡ record { name = name.now; kind = kind; null = null; auto = false; preset = preset }) }
 {
     Ok(Column {
         name: ByteText::of(alloc, name)?,
         kind,
         null,
+        auto: false,
         preset,
     })
 }
@@ -96,11 +97,11 @@ fn rows_find_memory(rt: HostRuntime) -> Result<(), Fail> {
     let mut undo = UndoList::list_new(alloc);
     // Rows of 87 bytes, of which three have room.
     for (id, name, becomes) in [
-        (1, b"ann".as_slice(), Inserted::Done),
+        (1, b"ann".as_slice(), Inserted::Done(None)),
         (1, b"bob", Inserted::Refused(16)),
         (2, b"alice", Inserted::Refused(15)),
-        (2, b"bob", Inserted::Done),
-        (3, b"eve", Inserted::Done),
+        (2, b"bob", Inserted::Done(None)),
+        (3, b"eve", Inserted::Done(None)),
         (4, b"joe", Inserted::Refused(19)),
     ] {
         let spec = person(alloc, id, name)?;
