@@ -95,7 +95,7 @@ bind_ok (Err code) f y is = absurd cc
 
 module _ (columns : List Column) where
   no_column : Column
-  no_column = record { name = []; kind = Int; null = false; preset = values.Null }
+  no_column = record { name = []; kind = Int; null = false; auto = false; preset = values.Null }
 
   value_fits : (kind : ModKind) (n : ℕ) (value cell made : Value) → (kind ≡ Update → IsAt IsOfKind columns n value) → changed_cell kind cell value ≡ Ok made → kind_fit (get_or columns n no_column).kind cell ≢ WrongKind → kind_fit (get_or columns n no_column).kind made ≢ WrongKind
   value_fits Update n value cell made at is of =

@@ -11,10 +11,11 @@ use Rattle.row_types.specs.declared.values.Value.{Value}
 use Rattle.table_rows.specs.Entries.{Entry, entry_cmp}
 use Rattle.table_rows.specs.declared.slot_ref.SlotRef.{SlotRef}
 use Rattle.table_rows.specs.Named.{AreSlots}
-use Rattle.table_rows.specs.Rows.{State, indexes_of, entries_of}
+use Rattle.table_rows.specs.Counters.{raised}
+use Rattle.table_rows.specs.Rows.{State, indexes_of, entries_of, counted_at, counter_of}
 use Rattle.table_rows.specs.Indexes.{primary_of}
 use Rattle.table_rows.specs.Slots.{is_in, is_live, is_live_in, without, with_row, with_row_at, without_at}
-use Rattle.table_rows.proofs.States.{entries_with}
+use Rattle.table_rows.proofs.States.{entries_given}
 
 module _ {X : Type 0} (test : X → Bool) where
   -- an item that passes is among those that another test keeps
@@ -73,11 +74,11 @@ module _ (state : State) (table : ℕ) (within : table < length state.tables) (s
   live_left = any_filter (is_in other) (λ (e : Entry). not (is_in slot e)) (other_slot slot other differ) (entries_of state table) live
 
   pub live_without : is_live_in (without_at state table slot) table other ≡ true
-  live_without = ap (is_live other) (entries_with state table within (without slot (entries_of state table))) ∙ live_left
+  live_without = ap (is_live other) (entries_given state table within (without slot (entries_of state table)) (counter_of state table)) ∙ live_left
 
   pub live_with : (row : List Value) → is_live_in (with_row_at state table slot row) table other ≡ true
   live_with row =
-      ap (is_live other) (entries_with state table within (with_row (indexes_of state table) slot row (entries_of state table)))
+      ap (is_live other) (entries_given state table within (with_row (indexes_of state table) slot row (entries_of state table)) (raised (counted_at state table) row (counter_of state table)))
       ∙ any_put (is_in other) (is_below (entry_cmp (primary_of (indexes_of state table))) (row, slot)) (row, slot) (without slot (entries_of state table)) live_left
 
 -- the slots behind the one that was changed

@@ -20,12 +20,13 @@ fn column(
     preset: Value,
 ) -> Result<Column, AllocError>
     ensures { IfOk result (λ column. column
-        ≡ record { name = name.now; kind = kind; null = null; preset = preset }) }
+        ≡ record { name = name.now; kind = kind; null = null; auto = false; preset = preset }) }
 {
     Ok(Column {
         name: ByteText::of(alloc, name)?,
         kind,
         null,
+        auto: false,
         preset,
     })
 }

@@ -83,10 +83,11 @@ some_schema_valid = record {
       db = refl;
       name = refl;
       columns = record {
-        each = (record { name = refl; kind = refl; preset = refl; held = tt }, (record { name = refl; kind = refl; preset = refl; held = tt }, (record { name = refl; kind = refl; preset = refl; held = tt }, tt)));
+        each = (record { name = refl; kind = refl; preset = refl; held = tt; counts = refl }, (record { name = refl; kind = refl; preset = refl; held = tt; counts = refl }, (record { name = refl; kind = refl; preset = refl; held = tt; counts = refl }, tt)));
         some = omega arith;
         most = omega arith;
         names = refl;
+        once = refl;
         rows = omega arith;
       };
       indexes = record {
@@ -94,6 +95,7 @@ some_schema_valid = record {
         most = omega arith;
         names = refl;
         primary = refl;
+        led = refl;
       };
     },
     tt,

@@ -29,9 +29,9 @@ row id name n = int id ∷ Text (name ∷ []) ∷ int n ∷ []
 -- A number, a text which may be missing, and another number.
 abbrev pub some_columns : List Column
 some_columns =
-    record { name = codes "id"; kind = kinds.Int; null = false; preset = Null }
-    ∷ record { name = codes "v"; kind = kinds.Bytes 8000; null = true; preset = Null }
-    ∷ record { name = codes "n"; kind = kinds.Int; null = false; preset = Null } ∷ []
+    record { name = codes "id"; kind = kinds.Int; null = false; auto = false; preset = Null }
+    ∷ record { name = codes "v"; kind = kinds.Bytes 8000; null = true; auto = false; preset = Null }
+    ∷ record { name = codes "n"; kind = kinds.Int; null = false; auto = false; preset = Null } ∷ []
 
 -- An index over the first column, one over the last, and one over both.
 abbrev pub some_indexes : List IndexDef
@@ -59,6 +59,7 @@ four_rows = record {
   tables = record {
     entries = (row 1 97 4, 0) ∷ (row 2 98 4, 1) ∷ (row 3 99 4, 2) ∷ (row 4 100 6, 3) ∷ [];
     room = 4;
+    counter = 0;
   } ∷ [];
 }
 

@@ -1,5 +1,5 @@
 //! What no contract says: that there is memory for the rows that are selected, and for replies.
-ghost use Rattle.std.specs.Prelude.{◌≡◌, ◌<◌, length, IfOk};
+ghost use Rattle.std.specs.Prelude.{◌≡◌, ◌<◌, length, IfOk, false};
 ghost use Rattle.std.specs.List.{AllByRecursion};
 ghost use Rattle.row_types.specs.declared.columns.Kind.TheVariants.{Bytes};
 ghost use Rattle.row_types.specs.declared.columns.Fit.TheVariants as fits_as;
@@ -23,12 +23,19 @@ fn text(alloc: Global, bytes: &[u8]) -> Result<Value, AllocError>
 
 fn column(alloc: Global, name: &[u8], kind: Kind, null: bool) -> Result<Column, AllocError>
     ensures { IfOk result (λ column.
-        column ≡ record { name = name.now; kind = kind; null = null; preset = values.Null }) }
+        column ≡ record {
+          name = name.now;
+          kind = kind;
+          null = null;
+          auto = false;
+          preset = values.Null;
+        }) }
 {
     Ok(Column {
         name: ByteText::of(alloc, name)?,
         kind,
         null,
+        auto: false,
         preset: Value::Null,
     })
 }

@@ -16,9 +16,9 @@ use Rattle.open_index.specs.Line.{reads}
 -- A table `test.t` of people: a number `id`, a text `name` of 32 bytes at most, and a number `n`.
 abbrev pub people_columns : List Column
 people_columns =
-    record { name = codes "id"; kind = Int; null = false; preset = values.Null }
-    ∷ record { name = codes "name"; kind = Bytes 32; null = true; preset = values.Null }
-    ∷ record { name = codes "n"; kind = Int; null = false; preset = values.Int (pos 0) } ∷ []
+    record { name = codes "id"; kind = Int; null = false; auto = false; preset = values.Null }
+    ∷ record { name = codes "name"; kind = Bytes 32; null = true; auto = false; preset = values.Null }
+    ∷ record { name = codes "n"; kind = Int; null = false; auto = false; preset = values.Int (pos 0) } ∷ []
 
 -- It has an index over `id`, and one over `n`.
 abbrev pub people_indexes : List IndexDef

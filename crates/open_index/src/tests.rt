@@ -14,6 +14,7 @@ fn column(alloc: Global, name: &[u8], kind: Kind) -> Result<Column, AllocError> 
         name: ByteText::of(alloc, name)?,
         kind,
         null: true,
+        auto: false,
         preset: Value::Null,
     })
 }

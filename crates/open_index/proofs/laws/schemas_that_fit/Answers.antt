@@ -15,15 +15,16 @@ returns-clause-numbered c schema valid = numbered schema valid
 columns : AreColumns people_columns
 columns = record {
   each = (
-    record { name = refl; kind = refl; preset = refl; held = tt },
+    record { name = refl; kind = refl; preset = refl; held = tt; counts = refl },
     (
-      record { name = refl; kind = refl; preset = refl; held = tt },
-      (record { name = refl; kind = refl; preset = refl; held = omega arith }, tt),
+      record { name = refl; kind = refl; preset = refl; held = tt; counts = refl },
+      (record { name = refl; kind = refl; preset = refl; held = omega arith; counts = refl }, tt),
     ),
   );
   some = omega arith;
   most = omega arith;
   names = refl;
+  once = refl;
   rows = omega arith;
 }
 
@@ -36,6 +37,7 @@ indexes = record {
   most = omega arith;
   names = refl;
   primary = refl;
+  led = refl;
 }
 
 pub returns-clause-valid : goal.returns-clause-valid
