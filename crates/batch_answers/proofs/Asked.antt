@@ -2,7 +2,7 @@
 --     reply_shown, slots_chosen, count_chosen      the rows that a find selects
 --     insert_answer      an insert
 --     change_answer      a change
-use Rattle.std.proofs.Common.{◌≡◌, ◌≢◌, ℕ, ◌<◌, Bool, true, false, cond, IfOk, List, [], ◌∷◌, map, length, get_or, set, Option, Some, None, Result, Ok, Err, refl, ap, ap₂, sym, subst, ◌∙◌}
+use Rattle.std.proofs.Common.{◌≡◌, ◌≢◌, ℕ, ℤ, ◌<◌, Bool, true, false, cond, IfOk, List, [], ◌∷◌, map, length, get_or, set, Option, Some, None, Result, Ok, Err, refl, ap, ap₂, sym, subst, ◌∙◌}
 use Rattle.std.specs.List.{AllByRecursion}
 use Rattle.std.proofs.lemmas.List.{map-set, length-map, get_or-map}
 use Rattle.index_tree.specs.Ordered.{with_item}
@@ -17,7 +17,8 @@ use Rattle.request_types.specs.Code.{number}
 use Rattle.request_types.specs.declared.inserts.InsertSpec.{InsertSpec}
 use Rattle.table_rows.specs.declared.slot_ref.SlotRef.{SlotRef}
 use Rattle.table_rows.specs.declared.undo.Undo.{Undo}
-use Rattle.table_rows.specs.Rows.{State, no_rows, columns_of, indexes_of, entries_of}
+use Rattle.table_rows.specs.Rows.{State, no_rows, columns_of, indexes_of, entries_of, counted_at, counter_of}
+use Rattle.table_rows.specs.Counters.{raised}
 use Rattle.table_rows.specs.Indexes.{primary_of}
 use Rattle.table_rows.specs.Slots.{is_live, row_at, with_row, with_row_at}
 use Rattle.table_rows.specs.Valid.{IsValidState}
@@ -35,21 +36,23 @@ use Rattle.find_scan.proofs.Chosen.{all_selected}
 use Rattle.row_insert.specs.declared.inserts.Inserted.{Inserted}
 use Rattle.row_insert.specs.declared.inserts.Inserted.TheVariants as inserted
 use Rattle.row_insert.specs.Refusal.{refusal_of}
-use Rattle.row_insert.specs.Insert.{new_row, answer_to, IsPut}
+use Rattle.row_insert.specs.Insert.{new_row, answer_to, insert_answer, IsPut}
+use Rattle.row_insert.specs.declared.drawing.Arrival.{Arrival}
+use Rattle.row_insert.specs.Draw.{coming, coming_to}
 use Rattle.row_insert.proofs.Widened.{within_widened}
 use Rattle.find_modify.specs.declared.modifies.Modified.{Modified}
 use Rattle.find_modify.specs.declared.modifies.Modified.TheVariants as modified
 use Rattle.find_modify.specs.Change.{changed_all}
 use Rattle.find_modify.specs.Change as modify
 use Rattle.find_modify.proofs.CellKinds.{ok_is}
-use Rattle.table_rows.specs.Database.{Database, rows_alone, rows_in, database_of, placed, placed_in}
-use Rattle.batch_answers.specs.Replies.{code_reply, count_reply}
-use Rattle.batch_answers.specs.Answers.{chosen, rows_reply, changed, unless_big, unless_refused, row_cmp, with_new, unless_barred, insert_answered, change_answered}
+use Rattle.table_rows.specs.Database.{Database, Holding, no_holding, rows_alone, holding_in, database_of, placed, placed_in}
+use Rattle.batch_answers.specs.Replies.{code_reply, count_reply, insert_reply}
+use Rattle.batch_answers.specs.Answers.{chosen, rows_reply, changed, unless_big, unless_refused, row_cmp, with_new, unless_barred, inserted as inserted_by, insert_answered, change_answered}
 use Rattle.batch_answers.specs.Steps.{reply_of}
 use Rattle.table_rows.proofs.Alone.{roomier_same}
 use Rattle.batch_answers.proofs.Moved.{all_moved, alone_moved, put_alone}
 use Rattle.batch_answers.proofs.Chosen.{selected_moved}
-use Rattle.batch_answers.proofs.Changed.{moved_slot, Same, none_same, all_same}
+use Rattle.batch_answers.proofs.Changed.{moved_slot, Same, counter_same, none_same, all_same}
 use Rattle.batch_answers.proofs.Named.{naming, apart_naming, named_tables}
 
 slots_moved : (f : ℕ → ℕ) (entries : List Entry) → slots_of (all_moved f entries) ≡ map (moved_slot f) (slots_of entries)
@@ -68,7 +71,7 @@ module _ (state : State) (table : ℕ) where
 module _ (state : State) (valid : IsValidState state) (spec : FindSpec) (below : spec.table < length state.tables) where
   chosen_moved : selected state spec ≡ all_moved (naming state valid spec.table below) (chosen (database_of state) spec)
   chosen_moved =
-      selected_moved (naming state valid spec.table below) state.schema state.bytes_max state.tables (map placed (map rows_in state.tables)) spec
+      selected_moved (naming state valid spec.table below) state.schema state.bytes_max state.tables (map placed (map holding_in state.tables)) spec
       (named_tables state valid spec.table below).entries
 
   have_rows : AllByRecursion (HasRow state spec.table) (selected state spec)
@@ -101,20 +104,22 @@ put_new : (state : State) (table : ℕ) (slot : ℕ) (row : List Value) → tabl
 put_new state table slot row below free =
     let columns = primary_of (indexes_of state table) in
     let here = entries_of state table in
-    let come : rows_alone (with_row (indexes_of state table) slot row here) ≡ with_item (row_cmp columns) row (get_or (map rows_in state.tables) table []) =
-    ap (λ (es : List Entry). rows_alone (with_item (entry_cmp columns) (row, slot) es)) (without_free slot here free)
-    ∙ put_alone columns row slot here
-    ∙ ap (with_item (row_cmp columns) row) (sym (get_or-map rows_in state.tables table no_rows [] below)) in
-    ap (λ (tables : List (List (List Value))). record { schema = state.schema; bytes_max = state.bytes_max; tables = tables })
-    (map-set rows_in state.tables table _ ∙ ap (set (map rows_in state.tables) table) come)
+    let after = raised (counted_at state table) row (counter_of state table) in
+    let come : rows_alone (with_row (indexes_of state table) slot row here) ≡ with_item (row_cmp columns) row (rows_alone here) =
+    ap (λ (es : List Entry). rows_alone (with_item (entry_cmp columns) (row, slot) es)) (without_free slot here free) ∙ put_alone columns row slot here in
+    ap (λ (tables : List Holding). record { schema = state.schema; bytes_max = state.bytes_max; tables = tables })
+    (map-set holding_in state.tables table _
+    ∙ ap (λ (rows : List (List Value)). set (map holding_in state.tables) table (record { rows = rows; counter = after })) come
+    ∙ ap (λ (holding : Holding). set (map holding_in state.tables) table (record { rows = with_item (row_cmp columns) row holding.rows; counter = raised (counted_at state table) row holding.counter }))
+    (sym (get_or-map holding_in state.tables table no_rows no_holding below)))
 
-put_database : (before after : State) (table : ℕ) (row : List Value) (undos more : List Undo) → table < length before.tables → IsPut table row before after undos more → database_of after ≡ with_new (database_of before) table row
-put_database before after table row undos more below put =
+put_database : (before after : State) (table : ℕ) (asked : List Value) (number : Option ℤ) (undos more : List Undo) → table < length before.tables → (put : IsPut table asked number before after undos more) → database_of after ≡ with_new (database_of before) table put.row
+put_database before after table asked number undos more below put =
     let between = with_slots before table 1 in
     let wide = slots_widened before table below 1 in
     ap database_of put.put
-    ∙ put_new between table put.slot row (within_widened before between table below wide) put.vacant.free
-    ∙ ap (λ (db : Database). with_new db table row) (roomier_same before between (widened_roomier table before between wide))
+    ∙ put_new between table put.slot put.row (within_widened before between table below wide) put.vacant.free
+    ∙ ap (λ (db : Database). with_new db table put.row) (roomier_same before between (widened_roomier table before between wide))
 
 same_database : (before after : State) (table : ℕ) (undos more : List Undo) → (after ≡ before) × (more ≡ undos) → database_of after ≡ database_of before
 same_database before after table undos more same = ap database_of same.0
@@ -126,35 +131,63 @@ fine x = Ok x
 ok_same : {A E : Type 0} (x y : A) → fine {A = A} {E = E} x ≡ fine y → x ≡ y
 ok_same x y same = cc
 
--- the code that an insert is answered by
-abbrev pub code_in : Inserted → ℕ
-code_in inserted.Done = 0
-code_in (inserted.Refused code) = code
+-- the reply that an insert is answered by
+abbrev pub reply_to : Inserted → List ℕ
+reply_to (inserted.Done number) = insert_reply number
+reply_to (inserted.Refused code) = code_reply code
 
-module _ (state after : State) (valid : IsValidState state) (table : ℕ) (row : List Value) (below : table < length state.tables) (undos more : List Undo) where
-  by_refusal : (refusal : Option Code) (answer : Inserted) → answer ≡ answer_to refusal → (answer ≡ inserted.Done → IsPut table row state after undos more) → (answer ≢ inserted.Done → (after ≡ state) × (more ≡ undos)) → unless_barred (database_of state) table row refusal ≡ (code_reply (code_in answer), database_of after)
-  by_refusal None answer is put same =
-      ap₂ (λ (reply : List ℕ) (db : Database). (reply, db)) (ap (λ (a : Inserted). code_reply (code_in a)) (sym is))
-      (sym (put_database state after table row undos more below (put is)))
-  by_refusal (Some code) answer is put same =
-      ap₂ (λ (reply : List ℕ) (db : Database). (reply, db)) (ap (λ (a : Inserted). code_reply (code_in a)) (sym is))
-      (sym (same_database state after table undos more (same (λ done. refused (sym done ∙ is)))))
+module _ (state after : State) (valid : IsValidState state) (table : ℕ) (asked : List Value) (below : table < length state.tables) (undos more : List Undo) where
+  -- what is known of an answer
+  abbrev PutBy : Inserted → Type 0
+  PutBy answer = (number : Option ℤ) → answer ≡ inserted.Done number → IsPut table asked number state after undos more
+
+  abbrev SameBy : Inserted → Type 0
+  SameBy answer = ((number : Option ℤ) → answer ≢ inserted.Done number) → (after ≡ state) × (more ≡ undos)
+
+  row_came : (come : Arrival) (row : List Value) → coming_to state table asked ≡ Ok come → coming_to state table asked ≡ Ok (record { row = row; number = come.number }) → row ≡ come.row
+  row_came come row first second = ap (λ (c : Arrival). c.row) (came (record { row = row; number = come.number }) come (sym second ∙ first))
     where
-      refused : inserted.Done ≡ inserted.Refused (number code) → ⊥
-      refused is = cc
+      came : (a b : Arrival) → (let r : Result Arrival Code = Ok a in r) ≡ Ok b → a ≡ b
+      came a b is = cc
+
+  refused_is : (code : ℕ) (answer : Inserted) → answer ≡ inserted.Refused code → SameBy answer → (let pair : List ℕ × Database = (code_reply code, database_of state) in pair) ≡ (reply_to answer, database_of after)
+  refused_is code answer is same =
+      ap₂ (λ (reply : List ℕ) (db : Database). (reply, db)) (ap reply_to (sym is))
+      (sym (same_database state after table undos more (same (λ number done. refused number (sym done ∙ is)))))
+    where
+      refused : (number : Option ℤ) → inserted.Done number ≡ inserted.Refused code → ⊥
+      refused number is = cc
+
+  by_refusal : (come : Arrival) (refusal : Option Code) (answer : Inserted) → coming_to state table asked ≡ Ok come → answer ≡ answer_to come.number refusal → PutBy answer → SameBy answer → unless_barred (database_of state) table come refusal ≡ (reply_to answer, database_of after)
+  by_refusal come None answer comes is put same =
+      let there = put come.number is in
+      ap₂ (λ (reply : List ℕ) (db : Database). (reply, db)) (ap reply_to (sym is))
+      (ap (with_new (database_of state) table) (sym (row_came come there.row comes there.comes)) ∙ sym (put_database state after table asked come.number undos more below there))
+  by_refusal come (Some code) answer comes is put same = refused_is (number code) answer is same
+
+  by_coming : (made : Result Arrival Code) (answer : Inserted) → coming_to state table asked ≡ made → answer ≡ insert_answer state table made → PutBy answer → SameBy answer → inserted_by (database_of state) table made ≡ (reply_to answer, database_of after)
+  by_coming (Err code) answer comes is put same = refused_is (number code) answer is same
+  by_coming (Ok come) answer comes is put same =
+      ap (unless_barred (database_of state) table come)
+      (sym (none_same (naming state valid table below) (apart_naming state valid table below) state.schema state.bytes_max table state.tables (map placed (map holding_in state.tables)) (named_tables state valid table below) come.row))
+      ∙ by_refusal come (refusal_of state table come.row None) answer comes is put same
+
+  -- the same row comes without slots
+  coming_placed : coming_to (placed_in (database_of state)) table asked ≡ coming_to state table asked
+  coming_placed =
+      ap (λ (counter : ℕ). coming (counted_at state table) counter asked)
+      (sym (counter_same (naming state valid table below) table state.tables (map placed (map holding_in state.tables)) (named_tables state valid table below)))
 
   -- an insert is answered as it is without slots
-  pub insert_answer : (answer : Inserted) → answer ≡ answer_to (refusal_of state table row None) → (answer ≡ inserted.Done → IsPut table row state after undos more) → (answer ≢ inserted.Done → (after ≡ state) × (more ≡ undos)) → unless_barred (database_of state) table row (refusal_of (placed_in (database_of state)) table row None) ≡ (code_reply (code_in answer), database_of after)
-  insert_answer answer is put same =
-      ap (unless_barred (database_of state) table row)
-      (sym (none_same (naming state valid table below) (apart_naming state valid table below) state.schema state.bytes_max table state.tables (map placed (map rows_in state.tables)) (named_tables state valid table below) row))
-      ∙ by_refusal (refusal_of state table row None) answer is put same
+  pub insert_answer_is : (answer : Inserted) → answer ≡ insert_answer state table (coming_to state table asked) → PutBy answer → SameBy answer → inserted_by (database_of state) table (coming_to (placed_in (database_of state)) table asked) ≡ (reply_to answer, database_of after)
+  insert_answer_is answer is put same =
+      ap (inserted_by (database_of state) table) coming_placed ∙ by_coming (coming_to state table asked) answer refl is put same
 
 -- the same by the result of the call
-pub insert_is : {E : Type 0} (state after : State) (valid : IsValidState state) (spec : InsertSpec) → spec.table < length state.tables → (undos more : List Undo) (result : Result Inserted E) (answer : Inserted) → result ≡ Ok answer → answer ≡ answer_to (refusal_of state spec.table (new_row (columns_of state spec.table) spec) None) → (result ≡ Ok inserted.Done → IsPut spec.table (new_row (columns_of state spec.table) spec) state after undos more) → (result ≢ Ok inserted.Done → (after ≡ state) × (more ≡ undos)) → insert_answered (database_of state) spec ≡ (code_reply (code_in answer), database_of after)
+pub insert_is : {E : Type 0} (state after : State) (valid : IsValidState state) (spec : InsertSpec) → spec.table < length state.tables → (undos more : List Undo) (result : Result Inserted E) (answer : Inserted) → result ≡ Ok answer → answer ≡ insert_answer state spec.table (coming_to state spec.table (new_row (columns_of state spec.table) spec)) → ((number : Option ℤ) → result ≡ Ok (inserted.Done number) → IsPut spec.table (new_row (columns_of state spec.table) spec) number state after undos more) → (((number : Option ℤ) → result ≢ Ok (inserted.Done number)) → (after ≡ state) × (more ≡ undos)) → insert_answered (database_of state) spec ≡ (reply_to answer, database_of after)
 insert_is state after valid spec below undos more result answer ok is put same =
-    insert_answer state after valid spec.table (new_row (columns_of state spec.table) spec) below undos more answer is
-    (λ done. put (ok ∙ ap Ok done)) (λ other. same (λ e. other (ok_same answer inserted.Done (sym ok ∙ e))))
+    insert_answer_is state after valid spec.table (new_row (columns_of state spec.table) spec) below undos more answer is
+    (λ number done. put number (ok ∙ ap Ok done)) (λ other. same (λ number e. other number (ok_same answer (inserted.Done number) (sym ok ∙ e))))
 
 module _ (state after : State) (valid : IsValidState state) (find : FindSpec) (change : ModSpec) (below : find.table < length state.tables) (undos more : List Undo) where
   abbrev made : Result State Code
@@ -168,14 +201,14 @@ module _ (state after : State) (valid : IsValidState state) (find : FindSpec) (c
       subst (λ (slots : List SlotRef). alike (changed_all find.table find.columns change slots state) (changed (database_of state) find change))
       (sym (slots_chosen state valid find below))
       (all_same (naming state valid find.table below) (apart_naming state valid find.table below) state.schema state.bytes_max find.table find.columns change
-      (slots_of (chosen (database_of state) find)) state.tables (map placed (map rows_in state.tables)) (named_tables state valid find.table below))
+      (slots_of (chosen (database_of state) find)) state.tables (map placed (map holding_in state.tables)) (named_tables state valid find.table below))
 
   by_made : (r q : Result State Code) → alike r q → (answer : Modified) → answer ≡ modify.answer_to (slots_of (selected state find)) r → ((count : ℕ) → answer ≡ modified.Done count → r ≡ Ok after) → (((count : ℕ) → answer ≢ modified.Done count) → (after ≡ state) × (more ≡ undos)) → (reply : List ℕ) → unless_refused (database_of state) reply q ≡ (reply_of reply answer, database_of after)
   by_made (Ok s) (Ok c) (ts, us, here, there, same) answer is done unchanged reply =
       let d = done (length (slots_of (selected state find))) is in
       let rows : database_of after ≡ database_of c =
       ap database_of (sym (ok_is s after d) ∙ here)
-      ∙ ap (λ (tables : List (List (List Value))). record { schema = state.schema; bytes_max = state.bytes_max; tables = tables }) same.alone
+      ∙ ap (λ (tables : List Holding). record { schema = state.schema; bytes_max = state.bytes_max; tables = tables }) same.alone
       ∙ ap database_of (sym there) in
       ap₂ (λ (r : List ℕ) (db : Database). (r, db)) (ap (reply_of reply) (sym is)) (sym rows)
   by_made (Ok s) (Err b) same answer is done unchanged reply = absurd same

@@ -3,11 +3,13 @@
 --     all_same      what changes leave
 use Rattle.std.proofs.Common.{◌≡◌, ℕ, ◌+◌, ◌-◌, ◌<◌, Bool, true, false, cond, List, [], ◌∷◌, map, length, get_or, set, Option, Some, None, Result, Ok, Err, refl, ap, ap₂, sym, subst, ◌∙◌, get_or-set_same, length-set}
 use Rattle.std.specs.Prelude.{◌==◌, sum_by}
-use Rattle.std.proofs.lemmas.List.{map-set, length-map}
+use Rattle.std.proofs.lemmas.List.{map-set, length-map, get_or-map}
 use Rattle.row_types.specs.declared.values.Value.{Value}
 use Rattle.row_types.specs.declared.tables.TableDef.{TableDef}
 use Rattle.row_types.specs.declared.tables.Schema.{Schema}
 use Rattle.row_types.specs.Size.{row_size}
+use Rattle.row_types.specs.Counted.{counted_of}
+use Rattle.table_rows.specs.Counters.{raised}
 use Rattle.table_rows.specs.Entries.{Entry}
 use Rattle.request_types.specs.declared.mods.ModSpec.{ModSpec}
 use Rattle.request_types.specs.declared.codes.Code.{Code}
@@ -21,15 +23,15 @@ use Rattle.row_insert.specs.Refusal.{is_too_long, code_of, refusal_of}
 use Rattle.request_types.specs.Refusal.{◌>>=◌}
 use Rattle.find_modify.specs.Cells.{changed_row}
 use Rattle.find_modify.specs.Change.{unless_refused, with_instead, deletes, changed_one, changed_all}
-use Rattle.table_rows.specs.Database.{rows_alone, rows_in}
-use Rattle.table_rows.proofs.Alone.{bytes_of, total_alone}
+use Rattle.table_rows.specs.Database.{Holding, no_holding, rows_alone, holding_in}
+use Rattle.table_rows.proofs.Alone.{holding_size, total_alone}
 use Rattle.batch_answers.proofs.Moved.{all_moved, alone_moved, dup_moved, without_moved, row_moved, put_moved}
 
 -- all tables have the same rows, those of this one in slots that stand for each other
 pub record AreMoved (f : ℕ → ℕ) (table : ℕ) (ts us : List Rows) : Type 0 where
   pub within : table < length us
   pub entries : (get_or ts table no_rows).entries ≡ all_moved f (get_or us table no_rows).entries
-  pub alone : map rows_in ts ≡ map rows_in us
+  pub alone : map holding_in ts ≡ map holding_in us
 
 -- the slot that stands for another
 abbrev pub moved_slot : (ℕ → ℕ) → SlotRef → SlotRef
@@ -38,21 +40,29 @@ moved_slot f slot = record { 0 = f slot.0 }
 module _ (f : ℕ → ℕ) (table : ℕ) (ts us : List Rows) (same : AreMoved f table ts us) where
   within_these : table < length ts
   within_these =
-      subst (λ (n : ℕ). table < n) (sym (length-map us rows_in) ∙ ap length (sym same.alone) ∙ length-map ts rows_in) same.within
+      subst (λ (n : ℕ). table < n) (sym (length-map us holding_in) ∙ ap length (sym same.alone) ∙ length-map ts holding_in) same.within
+
+  -- and the same counter
+  pub counter_same : (get_or ts table no_rows).counter ≡ (get_or us table no_rows).counter
+  counter_same =
+      ap (λ (holding : Holding). holding.counter)
+      (sym (get_or-map holding_in ts table no_rows no_holding within_these) ∙ ap (λ (holdings : List Holding). get_or holdings table no_holding) same.alone ∙ get_or-map holding_in us table no_rows no_holding same.within)
 
   -- the same rows come into the table
-  pub moved_with : (xs ys : List Entry) (r q : ℕ) → xs ≡ all_moved f ys → AreMoved f table (set ts table (record { entries = xs; room = r })) (set us table (record { entries = ys; room = q }))
-  moved_with xs ys r q is = record {
-    within = subst (λ (n : ℕ). table < n) (sym (length-set us table _)) same.within;
-    entries =
-        ap (λ (rows : Rows). rows.entries) (get_or-set_same ts table (record { entries = xs; room = r }) no_rows within_these)
-        ∙ is
-        ∙ ap (λ (rows : Rows). all_moved f rows.entries) (sym (get_or-set_same us table (record { entries = ys; room = q }) no_rows same.within));
-    alone =
-        map-set rows_in ts table (record { entries = xs; room = r })
-        ∙ ap₂ (λ (rs : List (List (List Value))) (rows : List (List Value)). set rs table rows) same.alone (ap rows_alone is ∙ alone_moved f ys)
-        ∙ sym (map-set rows_in us table (record { entries = ys; room = q }));
-  }
+  pub moved_with : (xs ys : List Entry) (r q n m : ℕ) → n ≡ m → xs ≡ all_moved f ys → AreMoved f table (set ts table (record { entries = xs; room = r; counter = n })) (set us table (record { entries = ys; room = q; counter = m }))
+  moved_with xs ys r q n m number is =
+      let rows : rows_alone xs ≡ rows_alone ys = ap rows_alone is ∙ alone_moved f ys in
+      record {
+        within = subst (λ (n : ℕ). table < n) (sym (length-set us table _)) same.within;
+        entries =
+            ap (λ (rows : Rows). rows.entries) (get_or-set_same ts table (record { entries = xs; room = r; counter = n }) no_rows within_these)
+            ∙ is
+            ∙ ap (λ (rows : Rows). all_moved f rows.entries) (sym (get_or-set_same us table (record { entries = ys; room = q; counter = m }) no_rows same.within));
+        alone =
+            map-set holding_in ts table (record { entries = xs; room = r; counter = n })
+            ∙ (λ i. set (same.alone i) table (record { rows = rows i; counter = number i }))
+            ∙ sym (map-set holding_in us table (record { entries = ys; room = q; counter = m }));
+      }
 
 module _ (f : ℕ → ℕ) (apart : (a b : ℕ) → (f a == f b) ≡ (a == b)) (schema : Schema) (bytes_max : ℕ) (table : ℕ) where
   -- tables with these rows
@@ -71,7 +81,7 @@ module _ (f : ℕ → ℕ) (apart : (a b : ℕ) → (f a == f b) ≡ (a == b)) (
     here = (get_or us table no_rows).entries
 
     total_same : total (at ts) ≡ total (at us)
-    total_same = total_alone ts ∙ ap (sum_by bytes_of) same.alone ∙ sym (total_alone us)
+    total_same = total_alone ts ∙ ap (sum_by holding_size) same.alone ∙ sym (total_alone us)
 
     pub refusal_same : (slot : ℕ) (row : List Value) → refusal_of (at ts) table row (Some (record { 0 = f slot })) ≡ refusal_of (at us) table row (Some (record { 0 = slot }))
     refusal_same slot row =
@@ -108,7 +118,7 @@ module _ (f : ℕ → ℕ) (apart : (a b : ℕ) → (f a == f b) ≡ (a == b)) (
         _,
         refl,
         refl,
-        moved_with f table ts us same _ _ _ _
+        moved_with f table ts us same _ _ _ _ _ _ (ap (raised (counted_of def.columns) row) (counter_same f table ts us same))
             (ap (with_row def.indexes (f slot.0) row) same.entries ∙ put_moved f apart def.indexes slot.0 row (get_or us table no_rows).entries),
       )
       put_same (Some code) row = refl
@@ -125,7 +135,7 @@ module _ (f : ℕ → ℕ) (apart : (a b : ℕ) → (f a == f b) ≡ (a == b)) (
         _,
         refl,
         refl,
-        moved_with f table ts us same _ _ _ _
+        moved_with f table ts us same _ _ _ _ _ _ (counter_same f table ts us same)
             (ap (without (f slot.0)) same.entries ∙ without_moved f apart slot.0 (get_or us table no_rows).entries),
       )
 

@@ -13,7 +13,7 @@ use Rattle.table_rows.specs.Slots.{is_in}
 use Rattle.table_rows.specs.Valid.{IsValidState}
 use Rattle.table_rows.proofs.BySlot.{HaveOwnSlots}
 use Rattle.table_rows.proofs.States.{rows_valid}
-use Rattle.table_rows.specs.Database.{rows_alone, rows_in, placed_from, placed}
+use Rattle.table_rows.specs.Database.{no_holding, rows_alone, holding_in, placed_from, placed}
 use Rattle.table_rows.proofs.Alone.{tables_placed}
 use Rattle.batch_answers.proofs.Moved.{all_moved}
 use Rattle.batch_answers.proofs.Changed.{AreMoved}
@@ -77,7 +77,7 @@ module _ (rows : Rows) (own : HaveOwnSlots rows.entries) (within : AllByRecursio
       by_same true same = eq-eqb (slot_at rows a) (slot_at rows b) (ap (slot_at rows) (eqb-true a b same))
       by_same false differ = ne_eqb (slot_at rows a) (slot_at rows b) (λ same. true≢false (sym (eq-eqb a b (same_place a b same)) ∙ differ))
 
-  named_rows : all_moved (slot_at rows) (placed_from 0 (rows_in rows)) ≡ rows.entries
+  named_rows : all_moved (slot_at rows) (placed_from 0 (rows_alone rows.entries)) ≡ rows.entries
   named_rows = named (slot_at rows) 0 rows.entries (λ i below. subst (λ (n : ℕ). slot_at rows n ≡ (get_or rows.entries i no_entry).1) (omega arith) (slot_here i below))
 
 module _ (state : State) (valid : IsValidState state) (table : ℕ) (below : table < length state.tables) where
@@ -88,13 +88,13 @@ module _ (state : State) (valid : IsValidState state) (table : ℕ) (below : tab
   pub apart_naming : (a b : ℕ) → (naming a == naming b) ≡ (a == b)
   apart_naming = apart_slots (rows_of state table) (rows_valid state valid table below).apart (rows_valid state valid table below).within
 
-  pub named_tables : AreMoved naming table state.tables (map placed (map rows_in state.tables))
+  pub named_tables : AreMoved naming table state.tables (map placed (map holding_in state.tables))
   named_tables =
-      let alone = map rows_in state.tables in
-      let long : length (map placed alone) ≡ length state.tables = length-map alone placed ∙ length-map state.tables rows_in in
-      let there : get_or (map placed alone) table no_rows ≡ placed (rows_in (rows_of state table)) =
-      get_or-map placed alone table [] no_rows (subst (λ (n : ℕ). table < n) (sym (length-map state.tables rows_in)) below)
-      ∙ ap placed (get_or-map rows_in state.tables table no_rows [] below) in
+      let alone = map holding_in state.tables in
+      let long : length (map placed alone) ≡ length state.tables = length-map alone placed ∙ length-map state.tables holding_in in
+      let there : get_or (map placed alone) table no_rows ≡ placed (holding_in (rows_of state table)) =
+      get_or-map placed alone table no_holding no_rows (subst (λ (n : ℕ). table < n) (sym (length-map state.tables holding_in)) below)
+      ∙ ap placed (get_or-map holding_in state.tables table no_rows no_holding below) in
       record {
         within = subst (λ (n : ℕ). table < n) (sym long) below;
         entries =

@@ -1,15 +1,15 @@
 -- Every reply is one line.
 --     answered_line      the reply to an item
 --     lines_for      those to a connection's items
-use Rattle.std.proofs.Common.{◌≡◌, ℕ, suc, ◌+◌, ◌≤◌, Bool, true, false, cond, eqb, leb, List, [], ◌∷◌, ◌++◌, length, Option, Some, None, Result, Ok, Err, refl, ap, ◌∙◌, ⊎_elim, arith, append_assoc}
+use Rattle.std.proofs.Common.{◌≡◌, ℕ, ℤ, suc, ◌+◌, ◌≤◌, Bool, true, false, cond, eqb, leb, List, [], ◌∷◌, ◌++◌, length, Option, Some, None, Result, Ok, Err, refl, ap, ◌∙◌, ⊎_elim, arith, append_assoc}
 use Rattle.std.specs.Prelude.{decimal}
+use Rattle.std.specs.Fmt.{signed_decimal}
 use Rattle.std.proofs.lemmas.Bool.{cases_Bool, ne_eqb, leb-true}
 use Rattle.hs_token.specs.declared.tokens.Token.{Token}
 use Rattle.hs_token.specs.declared.tokens.Token.TheVariants.{Null, Text}
 use Rattle.hs_token.specs.Spelling.{byte_spelled, text_spelled, token_spelled, line_spelled, reply_line}
 use Rattle.hs_line.specs.Lines.{IsLine}
 use Rattle.hs_line.proofs.LinesLemmas.{has_lf-append}
-use Rattle.row_types.specs.declared.values.Value.{Value}
 use Rattle.request_types.specs.declared.codes.Code.{Code}
 use Rattle.request_types.specs.Code.{number, text_of}
 use Rattle.request_types.specs.declared.connections.ConnId.{ConnId}
@@ -26,10 +26,12 @@ use Rattle.find_scan.specs.Rendering.{rendered}
 use Rattle.find_scan.specs.declared.replies.Rendered.{Rendered}
 use Rattle.find_scan.specs.declared.replies.Rendered.TheVariants.{Fits, TooBig}
 use Rattle.row_insert.specs.Refusal.{refusal_of}
+use Rattle.row_insert.specs.declared.drawing.Arrival.{Arrival}
+use Rattle.row_insert.specs.Draw.{coming_to}
 use Rattle.row_insert.specs.Insert.{new_row}
 use Rattle.table_rows.specs.Rows.{columns_of}
-use Rattle.batch_answers.specs.Replies.{code_reply, count_reply, big}
-use Rattle.batch_answers.specs.Answers.{chosen, rows_reply, unless_big, changed, unless_refused, unless_barred, answered, answers, replies_for, items_for, IsReply, AreLines}
+use Rattle.batch_answers.specs.Replies.{code_reply, count_reply, insert_reply, big}
+use Rattle.batch_answers.specs.Answers.{chosen, rows_reply, unless_big, changed, unless_refused, unless_barred, inserted, answered, answers, replies_for, items_for, IsReply, AreLines}
 
 -- ---- no spelling has a line feed
 
@@ -82,9 +84,17 @@ refused_line : (db : Database) (reply : List ℕ) (made : Result State Code) →
 refused_line db reply (Ok state) is = is
 refused_line db reply (Err code) is = code_line (number code)
 
-barred_line : (db : Database) (table : ℕ) (row : List Value) (why : Option Code) → IsReply (unless_barred db table row why).0
-barred_line db table row None = code_line 0
-barred_line db table row (Some code) = code_line (number code)
+number_line : (drawn : Option ℤ) → IsReply (insert_reply drawn)
+number_line None = code_line 0
+number_line (Some drawn) = is_reply 0 1 (Text (signed_decimal drawn) ∷ [])
+
+barred_line : (db : Database) (table : ℕ) (come : Arrival) (why : Option Code) → IsReply (unless_barred db table come why).0
+barred_line db table come None = number_line come.number
+barred_line db table come (Some code) = code_line (number code)
+
+inserted_line : (db : Database) (table : ℕ) (made : Result Arrival Code) → IsReply (inserted db table made).0
+inserted_line db table (Ok come) = barred_line db table come (refusal_of (placed_in db) table come.row None)
+inserted_line db table (Err code) = code_line (number code)
 
 rows_line : (db : Database) (find : FindSpec) → IsReply (rows_reply db find)
 rows_line db find = is_reply 0 (length find.columns) _
@@ -98,8 +108,7 @@ answered_line db (kinds.Ready code) = code_line code
 answered_line db (kinds.Hs (Find find)) = big_line (rendered (rows_reply db find)) db (rows_reply db find, db) (rows_line db find)
 answered_line db (kinds.Hs (Modify find change)) = change_line db find change change.show
 answered_line db (kinds.Hs (Insert spec)) =
-    let row = new_row (columns_of (placed_in db) spec.table) spec in
-    barred_line db spec.table row (refusal_of (placed_in db) spec.table row None)
+    inserted_line db spec.table (coming_to (placed_in db) spec.table (new_row (columns_of (placed_in db) spec.table) spec))
 
 -- ---- those of a connection
 

@@ -1,6 +1,6 @@
 -- Replies, part by part.
---     zero_written, code_written, count_written
-use Rattle.std.proofs.Common.{◌≡◌, ◌≢◌, ℕ, ◌<◌, ◌^◌, Bool, cond, List, [], ◌∷◌, ◌++◌, decimal, pos, ap, sym, subst, ◌∙◌, arith}
+--     zero_written, code_written, count_written, number_written
+use Rattle.std.proofs.Common.{◌≡◌, ◌≢◌, ℕ, ℤ, ◌<◌, ◌^◌, Bool, Some, cond, List, [], ◌∷◌, ◌++◌, decimal, pos, ap, sym, subst, ◌∙◌, arith}
 use Rattle.std.specs.Fmt.{signed_decimal}
 use Rattle.std.proofs.lemmas.Bool.{ne_eqb}
 use Rattle.std.proofs.lemmas.List.{append_assoc, append-nil}
@@ -8,7 +8,7 @@ use Rattle.hs_token.specs.declared.tokens.Token.{Token}
 use Rattle.hs_token.specs.declared.tokens.Token.TheVariants.{Text}
 use Rattle.hs_token.specs.Spelling.{text_spelled, behind_tabs, reply_head, reply_line}
 use Rattle.hs_token.proofs.ReplyLemmas.{reply_parts}
-use Rattle.batch_answers.specs.Replies.{code_reply, count_reply}
+use Rattle.batch_answers.specs.Replies.{code_reply, count_reply, insert_reply}
 use Rattle.request_types.specs.Code.{text_of}
 
 -- a reply line in its parts
@@ -38,3 +38,6 @@ code_written out code some small =
 
 pub count_written : (out : List ℕ) (count : ℕ) → (((out ++ reply_head 0 1) ++ 9 ∷ []) ++ text_spelled (signed_decimal (pos count))) ++ 10 ∷ [] ≡ out ++ count_reply count
 count_written out count = with_text out (decimal count) 0 (omega arith)
+
+pub number_written : (out : List ℕ) (number : ℤ) → (((out ++ reply_head 0 1) ++ 9 ∷ []) ++ text_spelled (signed_decimal number)) ++ 10 ∷ [] ≡ out ++ insert_reply (Some number)
+number_written out number = with_text out (signed_decimal number) 0 (omega arith)

@@ -7,7 +7,8 @@ use Rattle.index_tree.specs.Ordered.{with_item}
 use Rattle.row_types.specs.declared.values.Value.{Value}
 use Rattle.row_types.specs.Order.{key_cmp}
 use Rattle.table_rows.specs.Entries.{Entry, cells}
-use Rattle.table_rows.specs.Rows.{State, columns_of, indexes_of}
+use Rattle.table_rows.specs.Rows.{State, columns_of, indexes_of, counted_at}
+use Rattle.table_rows.specs.Counters.{raised}
 use Rattle.table_rows.specs.Indexes.{primary_of}
 use Rattle.request_types.specs.declared.finds.FindSpec.{FindSpec}
 use Rattle.request_types.specs.declared.mods.ModSpec.{ModSpec}
@@ -22,6 +23,8 @@ use Rattle.find_scan.specs.Rendering.{rendered}
 use Rattle.find_scan.specs.declared.replies.Rendered.{Rendered}
 use Rattle.find_scan.specs.declared.replies.Rendered.TheVariants.{Fits, TooBig}
 use Rattle.row_insert.specs.Refusal.{refusal_of}
+use Rattle.row_insert.specs.declared.drawing.Arrival.{Arrival}
+use Rattle.row_insert.specs.Draw.{coming_to}
 use Rattle.row_insert.specs.Insert.{new_row}
 use Rattle.find_modify.specs.Change.{changed_all}
 use Rattle.request_types.specs.declared.connections.ConnId.{ConnId}
@@ -31,8 +34,8 @@ use Rattle.request_types.specs.Ids.{same_id}
 use Rattle.request_types.specs.Batches.{heads, runs_of}
 use Rattle.request_types.specs.declared.batches.ItemKind.{ItemKind}
 use Rattle.request_types.specs.declared.batches.ItemKind.TheVariants as kinds
-use Rattle.table_rows.specs.Database.{Database, database_of, placed_in, rows_alone}
-use Rattle.batch_answers.specs.Replies.{code_reply, count_reply, big}
+use Rattle.table_rows.specs.Database.{Database, no_holding, database_of, placed_in, rows_alone}
+use Rattle.batch_answers.specs.Replies.{code_reply, count_reply, insert_reply, big}
 
 -- The rows that a find selects, each with its place.
 abbrev pub chosen : Database → FindSpec → List Entry
@@ -73,25 +76,31 @@ change_answered db find change =
 abbrev pub row_cmp : List ℕ → List Value → List Value → Ordering
 row_cmp columns a b = key_cmp (cells columns a) (cells columns b)
 
--- A table's rows with one more, at its place by the primary key.
+-- A table with one row more, at its place by the primary key, and with the counter above its value.
 abbrev pub with_new : Database → ℕ → List Value → Database
-with_new db table row = record {
+with_new db table row = let state = placed_in db in record {
   schema = db.schema;
   bytes_max = db.bytes_max;
-  tables = set db.tables table
-      (with_item (row_cmp (primary_of (indexes_of (placed_in db) table))) row (get_or db.tables table []));
+  tables = set db.tables table (record {
+    rows = with_item (row_cmp (primary_of (indexes_of state table))) row (get_or db.tables table no_holding).rows;
+    counter = raised (counted_at state table) row (get_or db.tables table no_holding).counter;
+  });
 }
 
--- A row that isn't refused comes to its table.
-abbrev pub unless_barred : Database → ℕ → List Value → Option Code → List ℕ × Database
-unless_barred db table row None = (code_reply 0, with_new db table row)
-unless_barred db table row (Some code) = (code_reply (number code), db)
+-- A row that isn't refused comes to its table, and is answered by the number that it drew.
+abbrev pub unless_barred : Database → ℕ → Arrival → Option Code → List ℕ × Database
+unless_barred db table coming None = (insert_reply coming.number, with_new db table coming.row)
+unless_barred db table coming (Some code) = (code_reply (number code), db)
 
--- An insert puts a row with the values that it names and presets for all others.
+-- A row comes to a table, or is refused since no number is left.
+abbrev pub inserted : Database → ℕ → Result Arrival Code → List ℕ × Database
+inserted db table (Ok coming) = unless_barred db table coming (refusal_of (placed_in db) table coming.row None)
+inserted db table (Err code) = (code_reply (number code), db)
+
+-- An insert puts a row with the values that it names and presets for all others, and with the number that it draws.
 abbrev pub insert_answered : Database → InsertSpec → List ℕ × Database
-insert_answered db spec =
-    let row = new_row (columns_of (placed_in db) spec.table) spec in
-    unless_barred db spec.table row (refusal_of (placed_in db) spec.table row None)
+insert_answered db spec = let state = placed_in db in
+    inserted db spec.table (coming_to state spec.table (new_row (columns_of state spec.table) spec))
 
 -- What a request is answered, and the rows that it leaves.
 abbrev pub request_answered : Database → Request → List ℕ × Database

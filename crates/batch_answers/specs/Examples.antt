@@ -10,7 +10,7 @@ use Rattle.table_rows.specs.Database.{Database}
 
 -- The only table with these rows, which may fill so many bytes.
 abbrev pub rows_within : ℕ → List (List Value) → Database
-rows_within bytes_max rows = record { schema = some_schema; bytes_max = bytes_max; tables = rows ∷ [] }
+rows_within bytes_max rows = record { schema = some_schema; bytes_max = bytes_max; tables = record { rows = rows; counter = 0 } ∷ [] }
 
 -- The rows (1, a, 4), (2, b, 4), (3, c, 4) and (4, d, 6).
 abbrev pub four : List (List Value)

@@ -1,6 +1,6 @@
 //! The replies that show no rows.
-ghost use Rattle.std.specs.Prelude.{◌≡◌, ◌++◌, OnOk};
-ghost use Rattle.batch_answers.specs.Replies.{code_reply, count_reply};
+ghost use Rattle.std.specs.Prelude.{◌≡◌, ◌++◌, OnOk, Some};
+ghost use Rattle.batch_answers.specs.Replies.{code_reply, count_reply, insert_reply};
 
 use hs_token::{push_head, push_integer, push_text};
 use request_types::text_of;
@@ -20,6 +20,26 @@ pub(crate) fn push_code(out: &mut Vec<u8>, code: u32) -> Result<(), AllocError>
     }
     out.push(TAB)?;
     push_text(out, text_of(code).as_bytes())?;
+    Ok(out.push(LINE_FEED)?)
+}
+
+/// Appends the reply to an insert, or a part of it where memory runs out.
+pub(crate) fn push_inserted(out: &mut Vec<u8>, number: Option<i64>) -> Result<(), AllocError>
+    ensures { OnOk result (out.new.items ≡ out.old.items ++ insert_reply number) }
+{
+    match number {
+        None => push_code(out, 0),
+        Some(number) => push_number(out, number),
+    }
+}
+
+// Appends the reply to an insert that drew this number.
+fn push_number(out: &mut Vec<u8>, number: i64) -> Result<(), AllocError>
+    ensures { OnOk result (out.new.items ≡ out.old.items ++ insert_reply (Some number)) }
+{
+    push_head(out, 0, 1)?;
+    out.push(TAB)?;
+    push_integer(out, number)?;
     Ok(out.push(LINE_FEED)?)
 }
 

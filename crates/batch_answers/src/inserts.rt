@@ -5,7 +5,7 @@ ghost use Rattle.table_rows.specs.Database.{database_of};
 ghost use Rattle.batch_answers.specs.Answers.{insert_answered};
 ghost use Rattle.table_rows.specs.GoingBack.{CanGoBack};
 
-use crate::codes::push_code;
+use crate::codes::{push_code, push_inserted};
 use request_types::InsertSpec;
 use row_insert::{Inserted, insert};
 use row_types::Schema;
@@ -32,7 +32,7 @@ pub(crate) fn answer_insert(
     // A proof knows that the rows are valid where it has asked for their shape.
     let _ = tables.schema();
     match insert(alloc, tables, schema, spec, undo)? {
-        Inserted::Done => push_code(out, 0),
+        Inserted::Done(number) => push_inserted(out, number),
         Inserted::Refused(code) => push_code(out, code),
     }
 }

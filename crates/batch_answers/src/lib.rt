@@ -5,7 +5,7 @@
 //! | a code | the code and its text; 0 has none | stay |
 //! | a find | the selected rows, or `20 1 big` where they are more than 16,777,216 bytes | stay |
 //! | a change | the selected rows from before it, or how many they are | all selected rows are changed, or none |
-//! | an insert | `0 1` | one more |
+//! | an insert | `0 1`, and the number that it drew | one more |
 //!
 //! Items are carried out in order, each on the rows that the one before it left, whatever connection it is of. Items of one
 //! connection that stand together are answered by one part. A refused item leaves the rows as they were, and those behind
