@@ -1,5 +1,6 @@
 //! What `top` answers and prints, by tables. Expected bytes are written out from the protocol and the form of scripts.
 mod bad_lines;
+mod counted;
 mod dialogue;
 mod ends;
 mod limits;

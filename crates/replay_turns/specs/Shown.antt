@@ -3,7 +3,7 @@ use Rattle.std.specs.Prelude.{ℕ, List, [], ◌∷◌, ◌++◌, map, codes, ge
 use Rattle.row_types.specs.declared.values.Value.{Value}
 use Rattle.hs_token.specs.Spelling.{behind_tabs}
 use Rattle.find_scan.specs.Show.{cell_token}
-use Rattle.table_rows.specs.Database.{Database}
+use Rattle.table_rows.specs.Database.{Database, no_holding}
 
 -- The line `row` with the values of a row, each as a token.
 abbrev pub row_line : List Value → List ℕ
@@ -17,4 +17,4 @@ rows_lines (row ∷ rows) = row_line row ++ rows_lines rows
 -- A line for each row of a table, in the order of its primary key. Nothing, where there is no such table.
 abbrev pub rows_shown : Option ℕ → Database → List ℕ
 rows_shown None db = []
-rows_shown (Some table) db = rows_lines (get_or db.tables table [])
+rows_shown (Some table) db = rows_lines (get_or db.tables table no_holding).rows
