@@ -9,7 +9,7 @@ use Rattle.turn_lock.specs.Agreement.{OneBegins, SeenAgree}
 use Rattle.turn_lock.specs.Serial.{IsSerial}
 use Rattle.turn_lock.specs.Known.{Known}
 use Rattle.turn_lock.specs.Turns.{Joined}
-use Rattle.turn_lock.proofs.Prefixes.{prefix_of, longer_case}
+use Rattle.known_lists.proofs.Prefixes.{prefix_of, longer_case}
 
 one_begins : {E : Type 0} (xs ys zs : List E) → IsPrefix xs zs → IsPrefix ys zs → OneBegins xs ys
 one_begins {E} xs ys zs p q =

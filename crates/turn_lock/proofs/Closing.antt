@@ -12,8 +12,8 @@ use Rattle.turn_lock.specs.declared.view.Dealt.{Dealt}
 use Rattle.turn_lock.specs.declared.view.Stage.{Stage}
 use Rattle.turn_lock.specs.declared.view.Stage.TheVariants.{Rests, Deals, Waits, Holds, Joins, Spent}
 use Rattle.turn_lock.specs.Serial.{IsAt, Sees, Owns, IsHome, IsSerial, holds_at, knows_at, lives_at, passes_of}
-use Rattle.turn_lock.proofs.Totals.{over_end, total_two}
-use Rattle.turn_lock.proofs.Prefixes.{prefix_none, prefix_whole}
+use Rattle.known_lists.proofs.Totals.{over_end, total_two}
+use Rattle.known_lists.proofs.Prefixes.{prefix_none, prefix_whole}
 use Rattle.turn_lock.proofs.Stays.{some_is, same_view, out_stays}
 use Rattle.atomic_table.specs.Table.{opening}
 use Rattle.turn_lock.specs.Serial.{starting}

@@ -14,8 +14,9 @@ use Rattle.turn_lock.specs.declared.view.Stage.TheVariants.{Rests, Deals, Waits,
 use Rattle.turn_lock.specs.Histories.{AllMadeBelow}
 use Rattle.turn_lock.specs.Serial.{IsAt, Sees, Owns, IsSerial, holds_at, knows_at, lives_at, tickets_of, passes_of}
 use Rattle.turn_lock.specs.Steps.{Counted, grown}
-use Rattle.turn_lock.proofs.Totals.{within, over, total_set}
-use Rattle.turn_lock.proofs.Prefixes.{prefix_all, prefix_snoc, made_here, made_elsewhere, made_snoc}
+use Rattle.known_lists.proofs.Totals.{within, over, total_set}
+use Rattle.known_lists.proofs.Prefixes.{prefix_all, prefix_snoc}
+use Rattle.turn_lock.proofs.Made.{made_here, made_elsewhere, made_snoc}
 use Rattle.turn_lock.proofs.Stays.{some_is, same_view, tickets_stay, stages_stay}
 
 abbrev pair : {B E : Type 0} → View B E → List (ℕ × Option B) → Me (Option B) (View B E)

@@ -12,8 +12,8 @@ use Rattle.turn_lock.specs.declared.view.Stage.TheVariants.{Rests, Deals, Waits,
 use Rattle.turn_lock.specs.Histories.{made_by}
 use Rattle.turn_lock.specs.Serial.{IsAt, Sees, Owns, IsSerial, holds_at, knows_at, lives_at, tickets_at, tickets_of, passes_of}
 use Rattle.turn_lock.specs.Steps.{dealing, newcomer, dealt_at, dealt_on}
-use Rattle.turn_lock.proofs.Totals.{within, over, over_end, total_set, total_snoc}
-use Rattle.turn_lock.proofs.Prefixes.{made_not_yet, made_more}
+use Rattle.known_lists.proofs.Totals.{within, over, over_end, total_set, total_snoc}
+use Rattle.turn_lock.proofs.Made.{made_not_yet, made_more}
 use Rattle.turn_lock.proofs.Stays.{no_ticket, tickets_stay, seen_stays, out_stays, home_stays}
 
 module _ {B E : Type 0} (stands : B → List E → B → Type 0) (maker : E → ℕ) (place : B → ℕ) (faults : B → ℕ) (dealt : Dealt B) where

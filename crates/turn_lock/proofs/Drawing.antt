@@ -15,7 +15,7 @@ use Rattle.turn_lock.specs.declared.view.Stage.TheVariants.{Rests, Deals, Waits,
 use Rattle.turn_lock.specs.Histories.{AllMadeBelow}
 use Rattle.turn_lock.specs.Serial.{IsAt, Sees, Owns, IsSerial, HasTicket, holds_at, knows_at, lives_at, tickets_at, tickets_of, passes_of}
 use Rattle.turn_lock.specs.Steps.{Drawn, waiting}
-use Rattle.turn_lock.proofs.Totals.{within, over, total_set}
+use Rattle.known_lists.proofs.Totals.{within, over, total_set}
 use Rattle.turn_lock.proofs.Stays.{no_ticket, tickets_stay, seen_stays, out_stays, home_stays, stages_stay}
 
 -- the new ticket's holder is the seat that drew it

@@ -10,11 +10,13 @@ use Rattle.atomic_table.proofs.Lists.{set_here, set_else}
 use Rattle.turn_lock.specs.declared.view.View.{View}
 use Rattle.turn_lock.specs.declared.view.Dealt.{Dealt}
 use Rattle.turn_lock.specs.declared.view.Stage.TheVariants.{Rests, Joins}
-use Rattle.turn_lock.specs.Histories.{AllMadeBelow, longer}
+use Rattle.known_lists.specs.Lists.{longer}
+use Rattle.turn_lock.specs.Histories.{AllMadeBelow}
 use Rattle.turn_lock.specs.Serial.{IsAt, Sees, Owns, IsSerial, holds_at, knows_at, lives_at, tickets_at, tickets_of, passes_of}
 use Rattle.turn_lock.specs.Steps.{Settled, joined, spent}
-use Rattle.turn_lock.proofs.Totals.{set_back, within, over, total_set, total_one}
-use Rattle.turn_lock.proofs.Prefixes.{longer_prefix, first_prefix, second_prefix, first_whole, second_whole, between}
+use Rattle.known_lists.proofs.Totals.{set_back, within, over, total_set, total_one}
+use Rattle.known_lists.proofs.Prefixes.{longer_prefix, first_prefix, second_prefix, first_whole, second_whole}
+use Rattle.turn_lock.proofs.Made.{between}
 use Rattle.turn_lock.proofs.Stays.{same_view, no_ticket, tickets_stay, seen_stays, out_stays, home_stays, stages_stay}
 
 module _ {B E : Type 0} (stands : B → List E → B → Type 0) (maker : E → ℕ) (place : B → ℕ) (faults : B → ℕ) (dealt : Dealt B) where

@@ -1,5 +1,4 @@
-mod Totals
-mod Prefixes
+mod Made
 mod Stays
 mod Drawing
 mod Looking

@@ -13,8 +13,8 @@ use Rattle.turn_lock.specs.declared.view.Stage.TheVariants.{Waits, Holds}
 use Rattle.turn_lock.specs.Histories.{AllMadeBelow}
 use Rattle.turn_lock.specs.Serial.{IsAt, Sees, Owns, IsHome, IsSerial, HasTicket, holds_at, knows_at, lives_at, tickets_at, tickets_of, passes_of}
 use Rattle.turn_lock.specs.Steps.{Turn, Looked, holding}
-use Rattle.turn_lock.proofs.Totals.{set_back, within, over, total_set, total_few}
-use Rattle.turn_lock.proofs.Prefixes.{prefix_all}
+use Rattle.known_lists.proofs.Totals.{set_back, within, over, total_set, total_few}
+use Rattle.known_lists.proofs.Prefixes.{prefix_all}
 use Rattle.turn_lock.proofs.Stays.{some_is, waits_is, one_ticket, tickets_stay, out_stays, stages_stay}
 
 module _ {B E : Type 0} (stands : B → List E → B → Type 0) (maker : E → ℕ) (place : B → ℕ) (faults : B → ℕ) (dealt : Dealt B) where

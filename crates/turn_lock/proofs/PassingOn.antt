@@ -13,7 +13,7 @@ use Rattle.turn_lock.specs.declared.view.Stage.TheVariants.{Rests, Deals, Waits,
 use Rattle.turn_lock.specs.Histories.{AllMadeBelow}
 use Rattle.turn_lock.specs.Serial.{IsAt, Sees, Owns, IsSerial, HasTicket, holds_at, knows_at, lives_at, tickets_at, tickets_of, passes_of}
 use Rattle.turn_lock.specs.Steps.{PassedOn, resting}
-use Rattle.turn_lock.proofs.Totals.{over, total_set}
+use Rattle.known_lists.proofs.Totals.{over, total_set}
 use Rattle.turn_lock.proofs.Stays.{slot_is, same_view, seen_stays, stages_stay}
 
 abbrev pair : {B E : Type 0} → View B E → List (ℕ × Option B) → Me (Option B) (View B E)

@@ -10,7 +10,7 @@ use Rattle.turn_lock.specs.declared.view.View.{View}
 use Rattle.turn_lock.specs.declared.view.Stage.{Stage}
 use Rattle.turn_lock.specs.declared.view.Stage.TheVariants.{Rests, Deals, Waits, Holds, Joins, Spent}
 use Rattle.turn_lock.specs.Serial.{IsAt, IsHome, IsOut, IsSeen, HasTicket, holds_at, knows_at, lives_at, tickets_at}
-use Rattle.turn_lock.proofs.Totals.{within, over}
+use Rattle.known_lists.proofs.Totals.{within, over}
 
 -- the second of two equal things is the first
 pub same_view : {A : Type 0} (l : List A) (i : ℕ) (v u : A) → get_elem? l i ≡ some v → get_elem? l i ≡ some u → v ≡ u

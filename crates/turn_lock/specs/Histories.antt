@@ -1,5 +1,5 @@
 -- Histories, and which entries of one a pass made.
-use Rattle.std.specs.Prelude.{ℕ, ◌+◌, ◌<◌, List, [], ◌∷◌, length, if◌then◌else◌, ◌==◌, nat_lt}
+use Rattle.std.specs.Prelude.{ℕ, ◌+◌, ◌<◌, List, [], ◌∷◌, if◌then◌else◌, ◌==◌}
 
 -- of a history the entries that were made in turns of the pass n, in their order
 abbrev pub made_by : {E : Type 0} → (E → ℕ) → ℕ → List E → List E
@@ -10,7 +10,3 @@ made_by maker n (e ∷ es) = if maker e == n then e ∷ made_by maker n es else 
 abbrev pub AllMadeBelow : {E : Type 0} → (E → ℕ) → ℕ → List E → Type 0
 AllMadeBelow maker seats [] = Unit {0}
 AllMadeBelow maker seats (e ∷ es) = (maker e + 1 < seats) × AllMadeBelow maker seats es
-
--- of two histories the longer one
-abbrev pub longer : {E : Type 0} → List E → List E → List E
-longer xs ys = if nat_lt (length xs) (length ys) then ys else xs

@@ -5,7 +5,8 @@ use Rattle.atomic_table.specs.Table.{Me, Step}
 use Rattle.turn_lock.specs.declared.view.View.{View}
 use Rattle.turn_lock.specs.declared.view.Stage.{Stage}
 use Rattle.turn_lock.specs.declared.view.Stage.TheVariants.{Rests, Deals, Waits, Holds, Joins, Spent}
-use Rattle.turn_lock.specs.Histories.{made_by, longer}
+use Rattle.known_lists.specs.Lists.{longer}
+use Rattle.turn_lock.specs.Histories.{made_by}
 
 -- after one more pass was dealt
 abbrev pub dealt_on : {E : Type 0} → Stage E → Stage E

@@ -3,7 +3,8 @@ use Rattle.std.specs.Prelude.{◌≡◌, ℕ, zero, suc, ◌+◌, ◌≤◌, Lis
 use mathlib.Core.List.{IsPrefix}
 use Rattle.std.specs.Borrow.{Bor}
 use Rattle.atomic_table.specs.Seated.{TableId}
-use Rattle.turn_lock.specs.Histories.{made_by, longer}
+use Rattle.known_lists.specs.Lists.{longer}
+use Rattle.turn_lock.specs.Histories.{made_by}
 use Rattle.turn_lock.specs.Known.{Known}
 
 -- a history with the entry, if there is one, at its end

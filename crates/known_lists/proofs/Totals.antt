@@ -3,7 +3,7 @@ use Rattle.std.proofs.Common.{◌≡◌, ◌≢◌, ◌⊎◌, ℕ, zero, suc, �
 use mathlib.Core.Option.{some, some-injective, some-ne-none}
 use lib.ListN.{get_elem?}
 use Rattle.atomic_table.proofs.Lists.{at_set}
-use Rattle.turn_lock.specs.Serial.{total}
+use Rattle.known_lists.specs.Lists.{total}
 
 -- a word that is read and written back
 pub set_back : (l : List ℕ) (i : ℕ) → set l i (get_or l i 0) ≡ l
