@@ -1,0 +1,16 @@
+mod CellLoop
+mod CellsAgain
+mod ChangeLoop
+mod ChangesAgain
+mod Fields
+mod Keyed
+mod SetsAgain
+mod RowTests
+mod NetMembers
+mod NetOrder
+mod PutNet
+mod Nets
+mod NoNet
+mod NetApplies
+mod ShortPayload
+mod NetFits

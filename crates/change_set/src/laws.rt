@@ -1,0 +1,55 @@
+//! What holds of sets of changes and their bytes.
+ghost use Rattle.std.specs.Prelude.{◌≡◌, ◌<◌, ◌^◌, Ok, Err, length, take, [], ◌∷◌, ◌++◌};
+ghost use Rattle.table_rows.specs.Examples.{numbered};
+ghost use Rattle.table_rows.specs.Database.{Database};
+ghost use Rattle.change_set.specs.Fitting.{AreChanges, AreRowsHeld};
+ghost use Rattle.change_set.specs.Net.{changes};
+ghost use Rattle.change_set.specs.Payload.{payload};
+ghost use Rattle.change_set.specs.Putting.{put, IsValidDatabase, Applies, NoneLower};
+ghost use Rattle.change_set.specs.Reading.{set_of};
+ghost use Rattle.change_set.specs.Examples.{first_row, first_payload};
+
+/// A set, its payload, and what is wrong with bytes that are none.
+pub fn worked_payloads()
+    ensures spelled { payload first_row ≡ first_payload }
+    ensures read { set_of (numbered 1).schema first_payload ≡ Ok first_row }
+    ensures cut_short { set_of (numbered 1).schema (take 3 first_payload) ≡ Err 0 }
+    ensures cut { set_of (numbered 1).schema (take 35 first_payload) ≡ Err 25 }
+    ensures too_long { set_of (numbered 1).schema (first_payload ++ 0 ∷ []) ≡ Err 36 }
+{}
+
+/// Net changes, put on the tables that they lead from, make those that they lead to.
+pub fn net_changes_lead_on()
+    ensures { (before after : Database) → IsValidDatabase before → IsValidDatabase after
+        → after.schema ≡ before.schema → after.bytes_max ≡ before.bytes_max
+        → put before (changes before after) ≡ after }
+{}
+
+/// There is no net change exactly where nothing changed.
+pub fn no_net_change_where_nothing_changed()
+    ensures none { (tables : Database) → changes tables tables ≡ [] }
+    ensures same { (before after : Database) → IsValidDatabase before → IsValidDatabase after
+        → after.schema ≡ before.schema → after.bytes_max ≡ before.bytes_max
+        → changes before after ≡ [] → after ≡ before }
+{}
+
+/// Net changes apply to the tables that they lead from, where no counter has gone down.
+pub fn net_changes_apply()
+    ensures { (before after : Database) → IsValidDatabase before → IsValidDatabase after
+        → after.schema ≡ before.schema → after.bytes_max ≡ before.bytes_max
+        → NoneLower before.tables after.tables → Applies before (changes before after) }
+{}
+
+/// The payload of net changes between valid tables has fewer than 2 ^ 32 bytes.
+pub fn payloads_are_short()
+    ensures { (before after : Database) → IsValidDatabase before → IsValidDatabase after
+        → length (payload (changes before after)) < 2 ^ 32 }
+{}
+
+/// Net changes fit the schema of the tables, whose integers have 64 bits. So their payload is read
+/// again.
+pub fn net_changes_fit()
+    ensures { (before after : Database) → IsValidDatabase before → IsValidDatabase after
+        → after.schema ≡ before.schema → AreRowsHeld before.tables → AreRowsHeld after.tables
+        → AreChanges before.schema (changes before after) }
+{}
