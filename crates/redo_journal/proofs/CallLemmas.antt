@@ -10,3 +10,7 @@ repaired false before after is_due is = absurd cc
 pub appended : (due : Bool) (before mid after : ℕ) → mid ≡ calls_after (if due then 2 else 0) before → after ≡ calls_after 4 mid → after ≡ calls_after (if due then 6 else 4) before
 appended true before mid after is more = more ∙ ap (calls_after 4) is
 appended false before mid after is more = more ∙ ap (calls_after 4) is
+
+pub rotated : (due : Bool) (before mid after : ℕ) → mid ≡ calls_after (if due then 2 else 0) before → after ≡ calls_after 5 mid → after ≡ calls_after (if due then 7 else 5) before
+rotated true before mid after is more = more ∙ ap (calls_after 5) is
+rotated false before mid after is more = more ∙ ap (calls_after 5) is

@@ -1,16 +1,30 @@
 -- What follows a journal's last gate is free.
-use Rattle.std.proofs.Common.{◌≤◌, inl, ℕ, List, [], ◌∷◌, ◌++◌, length, refl, ◌∙◌, ap, arith, append_assoc}
-use Rattle.redo_journal.specs.Image.{Journals, IsDamagedAt, IsFresh, front}
+use Rattle.std.proofs.Common.{◌≡◌, ◌≤◌, inl, inr, ℕ, ◌+◌, List, [], ◌∷◌, ◌++◌, length, take, drop, refl, sym, ◌∙◌, arith, length-append}
+use Rattle.std.proofs.lemmas.List.{drop_all, take_all, take_at}
+use Rattle.hs_disk.specs.Disk.{Torn}
+use Rattle.redo_journal.specs.Damage.{IsDamagedAt}
+use Rattle.redo_journal.specs.Image.{Contents, Journals, IsFresh}
+use Rattle.redo_journal.proofs.FormLemmas.{form_kept}
+use Rattle.redo_journal.proofs.StandLemmas.{closed_kept, closed_within}
 
-pub journals_on : (text image more : List ℕ) (payloads : List (List ℕ)) → Journals text payloads image → Journals text payloads (image ++ more)
-journals_on text image more payloads is = record {
-  text_fits = is.text_fits;
-  payloads_fit = is.payloads_fit;
-  shut = record {
-    gate = is.shut.gate;
-    rest = is.shut.rest ++ more;
-    is = ap (λ (l : List ℕ). l ++ more) is.shut.is ∙ append_assoc (front text payloads) (is.shut.gate ∷ is.shut.rest) more;
-    closed = is.shut.closed;
+-- more bytes behind an image are a write at its end
+gone_on : (image more : List ℕ) → Torn (length image) (length more) image (image ++ more)
+gone_on image more = record {
+  before = take_at image more (length image) refl ∙ sym (take_all (length image) image (omega arith));
+  after = drop_all (length image + length more) (image ++ more) (omega (arith, length-append image more)) ∙ sym (drop_all (length image + length more) image (omega arith));
+  no_shorter = omega (arith, length-append image more);
+  no_longer = omega (arith, length-append image more);
+}
+
+pub journals_on : (text image more : List ℕ) (contents : Contents) → Journals text contents image → Journals text contents (image ++ more)
+journals_on text image more contents is = record {
+  root = is.root;
+  gate = is.gate;
+  is = record {
+    text_fits = is.is.text_fits;
+    payloads_fit = is.is.payloads_fit;
+    form = form_kept (length image) (length more) image (image ++ more) (gone_on image more) text contents.first contents.payloads contents.area is.root is.gate (omega (arith, closed_within is.gate image is.is.shut)) is.is.form;
+    shut = closed_kept (length image) (length more) is.gate image (image ++ more) (gone_on image more) (inl (omega (arith, closed_within is.gate image is.is.shut))) is.is.shut;
   };
 }
 

@@ -1,11 +1,11 @@
 -- The length that stands in four bytes, and what it counts.
-use Rattle.std.proofs.Common.{◌≡◌, inl, inr, ℕ, ◌+◌, ◌*◌, ◌-◌, ◌<◌, ◌^◌, List, [], ◌∷◌, ◌++◌, length, get_or, take, drop, refl, sym, ◌∙◌, ap, subst, arith, length-drop}
+use Rattle.std.proofs.Common.{◌≡◌, inl, inr, ℕ, ◌+◌, ◌*◌, ◌-◌, ◌<◌, ◌^◌, List, [], ◌∷◌, ◌++◌, length, get_or, take, drop, refl, sym, ◌∙◌, ap, subst, arith, length-append, length-drop}
 use Rattle.std.specs.Int.{w32, to_be_bytes}
 use Rattle.std.proofs.lemmas.List.{length-take-le, take_rest, drop-drop, get_or-take, get_or-drop, get_or_past}
 use Rattle.std.proofs.lemmas.Bool.{cases_lt}
 use Rattle.std.proofs.Math.Seq.{take-add}
 use Rattle.std.proofs.lemmas.Nat.{be_bytes_4}
-use Rattle.redo_journal.specs.Image.{length_of, counted, FitsLength}
+use Rattle.redo_journal.specs.Bytes.{length_of, counted, FitsLength, StandsAt}
 
 -- the number that four bytes spell
 abbrev pub spelled : List ℕ → ℕ
@@ -27,16 +27,17 @@ length_read image at len is = is ∙ ap spelled (take_rest image at) ∙ sym (le
 pub record ReadsText (image : List ℕ) (at next : ℕ) (text : List ℕ) : Type 0 where
   pub fits : FitsLength text
   pub next_is : next ≡ at + (4 + length text)
-  pub upto : take next image ≡ take at image ++ counted text
+  pub stands : StandsAt at (counted text) image
 
 pub reads_text : (image : List ℕ) (at next : ℕ) (text : List ℕ) → ((i : ℕ) → get_or image i 0 < 256) → next ≡ at + 4 + length_of (drop at image) → next < length image → length_of (drop at image) < 2 ^ 32 → text ≡ take (next - (at + 4)) (drop (at + 4) image) → ReadsText image at next text
 unfolding length_of counted
 reads_text image at next text bytes ends within small text_is = record {
   fits = omega (arith, size, small);
   next_is = omega (arith, ends, size);
-  upto = ap (λ (n : ℕ). take n image) ends'
-      ∙ take-add at (4 + m) image
-      ∙ ap (λ (l : List ℕ). take at image ++ l) (take-add 4 m rest ∙ ap (λ (l : List ℕ). l ++ take m (drop 4 rest)) (sym head) ∙ ap (λ (l : List ℕ). to_be_bytes w32 (length text) ++ l) (sym body));
+  stands = ap (λ (n : ℕ). take n rest) counted_size
+      ∙ take-add 4 m rest
+      ∙ ap (λ (l : List ℕ). l ++ take m (drop 4 rest)) (sym head)
+      ∙ ap (λ (l : List ℕ). to_be_bytes w32 (length text) ++ l) (sym body);
 }
   where
     rest : List ℕ
@@ -59,6 +60,9 @@ reads_text image at next text bytes ends within small text_is = record {
 
     size : length text ≡ m
     size = ap length body ∙ length-take-le m (drop 4 rest) (omega (arith, long, length-drop 4 rest))
+
+    counted_size : length (to_be_bytes w32 (length text) ++ text) ≡ 4 + m
+    counted_size = omega (arith, size, length-append (to_be_bytes w32 (length text)) text)
 
     four : length (take 4 rest) ≡ 4
     four = length-take-le 4 rest (omega (arith, long))

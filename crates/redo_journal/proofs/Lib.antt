@@ -1,13 +1,24 @@
 mod AppendLemmas
 mod CallLemmas
+mod CommitLemmas
+mod DoubtLemmas
+mod FormLemmas
 mod FreeLemmas
-mod GateLemmas
 mod HeaderLemmas
 mod ImageLemmas
+mod LiveLemmas
 mod MakeLemmas
 pub mod Moments
 mod OpenLemmas
+mod OpeningLemmas
 mod ReadingLaws
 mod RecordLemmas
-mod StandsLemmas
+mod RepairLemmas
+mod RootLaws
+mod RotateLemmas
+mod RunLemmas
+mod SegmentLemmas
+mod StandLemmas
+mod SyncLemmas
+mod TurnLemmas
 mod WorkedExamples

@@ -107,6 +107,18 @@ module _ {D : Type 0} (seen : D → List ℕ) (may_leave : D → List ℕ → Ty
       let now = stepped step P P (seen mid) (may_leave mid) (seen new) (may_leave new) into was follows reading in
       (goes_on moment left_at old mid new P (may_leave new) so_far time now.leaves, now)
 
+  -- a first call, and what its images are
+  pub begins : (P : List ℕ → Type 0) (old new : D) → ((image : List ℕ) → left_at old (moment old) image → may_leave old image) → ((image : List ℕ) → may_leave old image → P image) → ((image : List ℕ) → may_leave new image → P image) → may_leave new (seen new) → Elapses (moment old) (moment new) (left_at old) (left_at new) (may_leave new) → LeavesOnly moment left_at old new P × Throughout P (seen new) (may_leave new)
+  begins P old new only_now was now reading time = (
+    goes_on moment left_at old old new P (may_leave new) (started moment left_at old P (may_leave old) only_now was) time now,
+    record { reads = now (seen new) reading; leaves = now },
+  )
+
+  -- and a next one
+  pub proceeds : (P : List ℕ → Type 0) (old mid new : D) → LeavesOnly moment left_at old mid P → ((image : List ℕ) → may_leave new image → P image) → may_leave new (seen new) → Elapses (moment mid) (moment new) (left_at mid) (left_at new) (may_leave new) → LeavesOnly moment left_at old new P × Throughout P (seen new) (may_leave new)
+  proceeds P old mid new so_far now reading time =
+      (goes_on moment left_at old mid new P (may_leave new) so_far time now, record { reads = now (seen new) reading; leaves = now })
+
   -- a next call that adds no image
   pub next_kept : (P : List ℕ → Type 0) (old mid new : D) → LeavesOnly moment left_at old mid P → Throughout P (seen mid) (may_leave mid) → AddsNone (may_leave mid) (may_leave new) → may_leave new (seen new) → Elapses (moment mid) (moment new) (left_at mid) (left_at new) (may_leave new) → LeavesOnly moment left_at old new P × Throughout P (seen new) (may_leave new)
   next_kept P old mid new so_far was adds_none reading time =

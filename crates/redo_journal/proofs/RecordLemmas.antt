@@ -1,14 +1,17 @@
--- One record more.
-use Rattle.std.proofs.Common.{◌≡◌, ℕ, ◌+◌, List, [], ◌∷◌, ◌++◌, length, get_or, take, drop, sym, ◌∙◌, ap, subst, arith, append_assoc, length-append}
-use Rattle.std.proofs.lemmas.List.{map-append, drop_more}
+-- One record more, and a record that is a root.
+use Rattle.std.proofs.Common.{◌≡◌, ◌≢◌, ◌⊎◌, inl, inr, ℕ, ◌+◌, ◌<◌, List, [], ◌∷◌, ◌++◌, length, get_or, take, drop, refl, sym, ◌∙◌, ap, subst, arith, append_assoc, length-append, take-append-drop}
 use Rattle.std.specs.List.{AllByRecursion}
-use Rattle.redo_journal.specs.Image.{FitsLength, records_of, counted}
+use Rattle.std.specs.Int.{w32, to_be_bytes}
+use Rattle.std.proofs.lemmas.List.{map-append}
+use Rattle.redo_journal.specs.Bytes.{FitsLength, StandsAt, records_of, counted}
+use Rattle.redo_journal.specs.Root.{IsRoot, NoneIsRoot, root_mark}
 use Rattle.redo_journal.specs.Records.{payloads_of, placed}
-use Rattle.redo_journal.specs.Reading.{StandFrom, ReadsRecord, RefusesRecord, RefusesRecords}
+use Rattle.redo_journal.specs.Reading.{RunFrom, BreaksAt, StandFrom, SkipsTo, SkipsRecord, ReadsRecord, RefusesRecord, RefusesRecords, RefusesSkip, IsRootAt}
 use Rattle.redo_journal.specs.declared.record.Record.{Record}
 use Rattle.redo_journal.specs.declared.refusal.Refusal.{Refusal}
 use Rattle.redo_journal.specs.declared.refusal.Refusal.TheVariants.{OtherSchema, Damaged, DiskFault, NoMemory}
-use Rattle.redo_journal.proofs.StandsLemmas.{records_of-push, length-counted, fits-push}
+use Rattle.redo_journal.proofs.FormLemmas.{records_of-push, length-counted, length-more, all-push}
+use Rattle.redo_journal.proofs.StandLemmas.{byte_stands, stands_join, stands_split}
 
 pub payloads_of-push : (records : List Record) (new : Record) → payloads_of (records ++ new ∷ []) ≡ payloads_of records ++ new.payload ∷ []
 payloads_of-push records new = map-append (λ (r : Record). r.payload) records (new ∷ [])
@@ -21,40 +24,75 @@ placed-push place (first ∷ payloads) payload =
     ∙ ap (λ (at : ℕ). placed (place + (5 + length first)) payloads ++ record { place = at; payload = payload } ∷ [])
     (omega (arith, length-append (1 ∷ counted first) (records_of payloads), length-counted first)))
 
-pub length-records-push : (payloads : List (List ℕ)) (payload : List ℕ) → length (records_of (payloads ++ payload ∷ [])) ≡ length (records_of payloads) + (5 + length payload)
-length-records-push payloads payload =
-    omega (arith, ap length (records_of-push payloads payload), length-append (records_of payloads) (1 ∷ counted payload), length-counted payload)
+pub run_none : (image : List ℕ) (first : ℕ) → first < length image → RunFrom image first [] first
+run_none image first within = record { fit = tt; stand = refl; gate_is = omega arith; within = within }
 
-pub stand_more : (image : List ℕ) (first gate next : ℕ) (records : List Record) (new : Record) → StandFrom image first records gate → ReadsRecord image gate new next → StandFrom image first (records ++ new ∷ []) next
-stand_more image first gate next records new stand read = record {
+pub run_more : (image : List ℕ) (first gate next : ℕ) (payloads : List (List ℕ)) (payload : List ℕ) → RunFrom image first payloads gate → ReadsRecord image gate payload next → RunFrom image first (payloads ++ payload ∷ []) next
+run_more image first gate next payloads payload run read = record {
+  fit = all-push FitsLength payloads payload run.fit read.fits;
+  stand = subst (λ (l : List ℕ). StandsAt first l image) (sym (records_of-push payloads payload))
+      (stands_join first (records_of payloads) (1 ∷ counted payload) image run.stand (subst (λ (g : ℕ). StandsAt g (1 ∷ counted payload) image) run.gate_is read.stands));
+  gate_is = omega (arith, read.next_is, run.gate_is, ap length (records_of-push payloads payload), length-more (records_of payloads) payload);
+  within = read.within;
+}
+
+pub stand_none : (image : List ℕ) (first : ℕ) → first < length image → StandFrom image first [] first
+stand_none image first within = record { places = refl; run = run_none image first within }
+
+pub stand_more : (image : List ℕ) (first gate next : ℕ) (records : List Record) (new : Record) → StandFrom image first records gate → new.place ≡ gate → ReadsRecord image gate new.payload next → StandFrom image first (records ++ new ∷ []) next
+stand_more image first gate next records new stand place read = record {
   places = ap (λ (l : List Record). l ++ new ∷ []) stand.places
       ∙ ap (λ (r : Record). placed first (payloads_of records) ++ r ∷ []) new_is
       ∙ sym (placed-push first (payloads_of records) new.payload)
       ∙ ap (placed first) (sym more);
-  fit = subst (AllByRecursion FitsLength) (sym more) (fits-push (payloads_of records) new.payload stand.fit read.fits);
-  upto = read.upto
-      ∙ ap (λ (l : List ℕ). l ++ 1 ∷ counted new.payload) stand.upto
-      ∙ append_assoc (take first image) (records_of (payloads_of records)) (1 ∷ counted new.payload)
-      ∙ ap (λ (l : List ℕ). take first image ++ l) (sym (records_of-push (payloads_of records) new.payload) ∙ ap records_of (sym more));
-  gate_is = omega (arith, read.next_is, stand.gate_is, length-records-push (payloads_of records) new.payload, ap (λ (l : List (List ℕ)). length (records_of l)) more);
-  within = read.within;
+  run = subst (λ (l : List (List ℕ)). RunFrom image first l next) (sym more) (run_more image first gate next (payloads_of records) new.payload stand.run read);
 }
   where
     more : payloads_of (records ++ new ∷ []) ≡ payloads_of records ++ new.payload ∷ []
     more = payloads_of-push records new
 
     new_is : new ≡ record { place = first + length (records_of (payloads_of records)); payload = new.payload }
-    new_is = ap (λ (place : ℕ). record { place = place; payload = new.payload }) (read.place ∙ stand.gate_is)
+    new_is = ap (λ (at : ℕ). record { place = at; payload = new.payload }) (place ∙ stand.run.gate_is)
+
+pub skips_none : (image : List ℕ) (first : ℕ) → first < length image → SkipsTo image first first
+skips_none image first within = record { payloads = []; none_is_root = tt; run = run_none image first within }
+
+pub skips_more : (image : List ℕ) (first gate next : ℕ) → SkipsTo image first gate → SkipsRecord image gate next → SkipsTo image first next
+skips_more image first gate next skips more = record {
+  payloads = skips.payloads ++ more.payload ∷ [];
+  none_is_root = all-push (λ p. IsRoot p → ⊥) skips.payloads more.payload skips.none_is_root more.no_root;
+  run = run_more image first gate next skips.payloads more.payload skips.run more.reads;
+}
 
 -- a record that isn't whole breaks them off
-pub refused_more : (image : List ℕ) (first gate : ℕ) (records : List Record) → StandFrom image first records gate → get_or image gate 0 ≡ 1 → (refusal : Refusal) → RefusesRecord image gate refusal → RefusesRecords image first refusal
-refused_more image first gate records stand is_open OtherSchema refuses = refuses
-refused_more image first gate records stand is_open (Damaged place) refuses = record {
-  records = records;
-  stand = subst (StandFrom image first records) (sym refuses.0) stand;
-  rest = drop (gate + 1) image;
-  is = ap (λ (n : ℕ). drop n image) refuses.0 ∙ drop_more image gate 0 stand.within ∙ ap (λ (byte : ℕ). byte ∷ drop (gate + 1) image) is_open;
-  cut = refuses.1;
+pub refused_more : (image : List ℕ) (first gate : ℕ) (records : List Record) → StandFrom image first records gate → (refusal : Refusal) → RefusesRecord image gate refusal → RefusesRecords image first refusal
+refused_more image first gate records stand OtherSchema refuses = refuses
+refused_more image first gate records stand (Damaged place) refuses = record {
+  payloads = payloads_of records;
+  run = subst (RunFrom image first (payloads_of records)) (sym refuses.0) stand.run;
+  breaks = subst (λ (p : ℕ). BreaksAt p image) (sym refuses.0) refuses.1;
 }
-refused_more image first gate records stand is_open DiskFault refuses = refuses
-refused_more image first gate records stand is_open NoMemory refuses = refuses
+refused_more image first gate records stand DiskFault refuses = absurd refuses
+refused_more image first gate records stand NoMemory refuses = absurd refuses
+
+pub refused_skip : (image : List ℕ) (first gate : ℕ) → SkipsTo image first gate → (refusal : Refusal) → RefusesRecord image gate refusal → RefusesSkip image first refusal
+refused_skip image first gate skips OtherSchema refuses = refuses
+refused_skip image first gate skips (Damaged place) refuses = record {
+  skips = subst (SkipsTo image first) (sym refuses.0) skips;
+  breaks = subst (λ (p : ℕ). BreaksAt p image) (sym refuses.0) refuses.1;
+}
+refused_skip image first gate skips DiskFault refuses = refuses
+refused_skip image first gate skips NoMemory refuses = refuses
+
+-- a record of a root's form begins so
+pub root_counted : (payload : List ℕ) → IsRoot payload → 1 ∷ counted payload ≡ root_mark ++ drop 4 payload
+unfolding counted
+root_counted payload is =
+    ap (λ (n : ℕ). 1 ∷ (to_be_bytes w32 n ++ payload)) is.size
+    ∙ ap (λ (l : List ℕ). 1 ∷ 0 ∷ 0 ∷ 0 ∷ 21 ∷ l) (sym (take-append-drop 4 payload) ∙ ap (λ (l : List ℕ). l ++ drop 4 payload) is.mark)
+
+pub no_root : (image : List ℕ) (gate next : ℕ) (payload : List ℕ) → ReadsRecord image gate payload next → (IsRootAt gate image → ⊥) → IsRoot payload → ⊥
+no_root image gate next payload read none is = none (record {
+  stands = (stands_split gate root_mark (drop 4 payload) image (subst (λ (l : List ℕ). StandsAt gate l image) (root_counted payload is) read.stands)).0;
+  whole = omega (arith, read.within, read.next_is, is.size);
+})

@@ -1,26 +1,10 @@
--- What a disk shows round one gate, while it is written.
-use Rattle.std.specs.Prelude.{◌≡◌, ◌≢◌, ℕ, List, ◌∷◌, ◌++◌, Result, OnOk, OnErr}
-use Rattle.hs_disk.specs.Disk.{LeavesOnly}
+-- What writes and syncs leave on a disk.
+use Rattle.std.specs.Prelude.{◌≡◌, ℕ, List, Result, OnOk, OnErr}
+use Rattle.hs_disk.specs.Disk.{AllImages, LeavesOnly, Only, Torn}
 
 -- these bytes and no other
 abbrev pub Is : List ℕ → List ℕ → Type 0
 Is bytes image = image ≡ bytes
-
--- behind this front stands a gate that may be open or closed, then these contents, and then a
--- closed gate
-pub record InDoubtAfter (front contents image : List ℕ) : Type 0 where
-  pub gate : ℕ
-  pub next : ℕ
-  pub rest : List ℕ
-  pub is : image ≡ front ++ gate ∷ (contents ++ next ∷ rest)
-  pub closed : next ≢ 1
-
--- the same, and the gate has this value
-pub record SetAfter (front : List ℕ) (gate : ℕ) (contents image : List ℕ) : Type 0 where
-  pub next : ℕ
-  pub rest : List ℕ
-  pub is : image ≡ front ++ gate ∷ (contents ++ next ∷ rest)
-  pub closed : next ≢ 1
 
 -- so it is of what a read gives, and of each image that a crash now may leave
 pub record Throughout (P : List ℕ → Type 0) (seen : List ℕ)
@@ -36,3 +20,18 @@ pub record Passes {D T E : Type 0} (seen : D → List ℕ) (may_leave : D → Li
   pub moments : LeavesOnly moment left_at old new during
   pub ok : OnOk result (Throughout after (seen new) (may_leave new))
   pub err : OnErr result (Throughout failed (seen new) (may_leave new))
+
+-- one of these images, with any bytes in this range
+pub record TornFrom (at n : ℕ) (images : List ℕ → Type 0) (image : List ℕ) : Type 0 where
+  pub earlier : List ℕ
+  pub was : images earlier
+  pub torn : Torn at n earlier image
+
+-- Writes, and a sync behind them: a crash at each moment leaves an image of this kind. After Ok, it
+-- leaves these bytes, which a read gives.
+pub record Syncs {D T E : Type 0} (seen : D → List ℕ) (may_leave : D → List ℕ → Type 0)
+    (moment : D → ℕ) (left_at : D → ℕ → List ℕ → Type 0) (old new : D)
+    (during : List ℕ → Type 0) (bytes : List ℕ) (result : Result T E) : Type 0 where
+  pub moments : LeavesOnly moment left_at old new during
+  pub leaves : Throughout during (seen new) (may_leave new)
+  pub ok : OnOk result (Throughout (Is bytes) (seen new) (may_leave new))

@@ -1,45 +1,80 @@
 -- What the bytes of a journal stand for.
-use Rattle.std.specs.Prelude.{◌≡◌, ◌≢◌, ◌⊎◌, ℕ, ◌+◌, ◌^◌, ◌<◌, ◌≤◌, List, [], ◌∷◌, ◌++◌, length, take, drop}
+use Rattle.std.specs.Prelude.{◌≡◌, ◌≢◌, ◌⊎◌, ℕ, ◌+◌, ◌^◌, ◌<◌, Option, None, Some, List, [], ◌∷◌, ◌++◌, length}
 use Rattle.std.specs.List.{AllByRecursion}
-use Rattle.std.specs.Int.{w32, to_be_bytes, from_be_bytes}
+use Rattle.redo_journal.specs.Bytes.{FitsLength, StandsAt, ClosedAt, front, segment_front}
+use Rattle.redo_journal.specs.Root.{NoneIsRoot, HasRoot, HasCell, Selects, root_end}
+use Rattle.redo_journal.specs.declared.root.Root.{Root}
 
--- the bytes of `HSJRNL01`
-abbrev pub mark : List ℕ
-mark = 72 ∷ 83 ∷ 74 ∷ 82 ∷ 78 ∷ 76 ∷ 48 ∷ 49 ∷ []
+-- what a journal stands for: the number of the records before its area, the area, where it has one,
+-- and the payloads of the records behind it
+pub record Contents : Type 0 where
+  pub first : ℕ
+  pub area : Option (List ℕ)
+  pub payloads : List (List ℕ)
 
--- a text behind its length in four bytes, the highest first
-unfoldable pub counted : List ℕ → List ℕ
-counted text = to_be_bytes w32 (length text) ++ text
+-- how many records that makes
+abbrev pub count : Contents → ℕ
+count contents = contents.first + length contents.payloads
 
--- what stands behind the first gate: the mark and the schema text
-abbrev pub heading : List ℕ → List ℕ
-heading text = mark ++ counted text
+-- no record
+abbrev pub nothing : Contents
+nothing = record { first = 0; area = None; payloads = [] }
 
--- records: each an open gate and a payload behind its length
-abbrev pub records_of : List (List ℕ) → List ℕ
-records_of [] = []
-records_of (payload ∷ payloads) = (1 ∷ counted payload) ++ records_of payloads
+-- one payload more
+abbrev pub added : Contents → List ℕ → Contents
+added contents payload = record contents { payloads = contents.payloads ++ payload ∷ [] }
 
--- a journal up to its last gate
-abbrev pub front : List ℕ → List (List ℕ) → List ℕ
-front text payloads = (1 ∷ heading text) ++ records_of payloads
+-- an area for so many records, and none behind it
+abbrev pub area_alone : ℕ → List ℕ → Contents
+area_alone number area = record { first = number; area = Some area; payloads = [] }
 
--- this front, then a gate that is closed, and then anything
-pub record ClosedAfter (front image : List ℕ) : Type 0 where
-  pub gate : ℕ
-  pub rest : List ℕ
-  pub is : image ≡ front ++ gate ∷ rest
-  pub closed : gate ≢ 1
+-- without a root, the records stand behind the header, up to this gate
+pub record IsPlain (text : List ℕ) (payloads : List (List ℕ)) (gate : ℕ) (image : List ℕ) : Type 0 where
+  pub none_is_root : NoneIsRoot payloads
+  pub stands : StandsAt 0 (front text payloads) image
+  pub gate_is : gate ≡ length (front text payloads)
 
--- its length fits four bytes
-abbrev pub FitsLength : List ℕ → Type 0
-FitsLength text = length text < 2 ^ 32
+-- a segment stands at this place, up to this gate
+pub record IsSegmentAt (place first : ℕ) (area : List ℕ) (payloads : List (List ℕ)) (gate : ℕ)
+    (image : List ℕ) : Type 0 where
+  pub first_fits : first < 2 ^ 64
+  pub area_fits : FitsLength area
+  pub stands : StandsAt place (segment_front first area payloads) image
+  pub gate_is : gate ≡ place + length (segment_front first area payloads)
 
--- the image of a journal for this schema text with these payloads
-pub record Journals (text : List ℕ) (payloads : List (List ℕ)) (image : List ℕ) : Type 0 where
+-- the segment stands where this cell of the root says, behind the root and the byte that follows it
+pub record IsRooted (text : List ℕ) (first : ℕ) (area : List ℕ) (payloads : List (List ℕ))
+    (root : Root) (gate : ℕ) (image : List ℕ) : Type 0 where
+  pub has_root : HasRoot text root image
+  pub has_cell : HasCell root image
+  pub behind : root_end root < root.live
+  pub segment : IsSegmentAt root.live first area payloads gate image
+
+-- a journal up to its last gate: without a root, it has no area and no record is before it; with
+-- one, the selector names the cell, and the number of all records fits eight bytes
+abbrev pub IsForm : List ℕ → ℕ → List (List ℕ) → Option (List ℕ) → Option Root → ℕ → List ℕ → Type 0
+IsForm text first payloads None None gate image = (first ≡ 0) × IsPlain text payloads gate image
+IsForm text first payloads None (Some root) gate image = ⊥
+IsForm text first payloads (Some area) None gate image = ⊥
+IsForm text first payloads (Some area) (Some root) gate image =
+    (first + length payloads < 2 ^ 64)
+    × Selects root image
+    × IsRooted text first area payloads root gate image
+
+-- the image of a journal with these contents, and with this root and last gate, which is closed;
+-- what else it has is free
+pub record IsImageAt (text : List ℕ) (contents : Contents) (root : Option Root) (gate : ℕ)
+    (image : List ℕ) : Type 0 where
   pub text_fits : FitsLength text
-  pub payloads_fit : AllByRecursion FitsLength payloads
-  pub shut : ClosedAfter (front text payloads) image
+  pub payloads_fit : AllByRecursion FitsLength contents.payloads
+  pub form : IsForm text contents.first contents.payloads contents.area root gate image
+  pub shut : ClosedAt gate image
+
+-- the image of a journal with these contents
+pub record Journals (text : List ℕ) (contents : Contents) (image : List ℕ) : Type 0 where
+  pub root : Option Root
+  pub gate : ℕ
+  pub is : IsImageAt text contents root gate image
 
 -- nothing was written yet: at most one byte, or a first gate that is not open
 abbrev pub IsFresh : List ℕ → Type 0
@@ -47,45 +82,6 @@ IsFresh [] = Unit {0}
 IsFresh (gate ∷ []) = Unit {0}
 IsFresh (gate ∷ byte ∷ rest) = gate ≢ 1
 
--- the image of a journal, or a fresh one with no payload
-abbrev pub StandsFor : List ℕ → List (List ℕ) → List ℕ → Type 0
-StandsFor text payloads image = (IsFresh image × (payloads ≡ [])) ⊎ Journals text payloads image
-
--- the header is whole, and has another schema text
-pub record HasOtherText (text image : List ℕ) : Type 0 where
-  pub other : List ℕ
-  pub rest : List ℕ
-  pub fits : FitsLength other
-  pub is : image ≡ (1 ∷ heading other) ++ rest
-  pub gate : rest ≢ []
-  pub differs : other ≢ text
-
--- the number in the first four bytes, the highest first
-unfoldable pub length_of : List ℕ → ℕ
-length_of bytes = from_be_bytes w32 (take 4 bytes)
-
--- behind an open gate, the length, what it counts or the gate that follows lies past the end
-abbrev pub IsCutShort : List ℕ → Type 0
-IsCutShort rest = length rest ≤ 4 + length_of rest
-
--- behind the first gate, which is open, stands no mark, or the text or the gate that follows lies
--- past the end
-abbrev pub HasDamagedHeader : List ℕ → Type 0
-HasDamagedHeader [] = ⊥
-HasDamagedHeader (gate ∷ rest) =
-    (gate ≡ 1) × (rest ≢ []) × ((take 8 rest ≢ mark) ⊎ IsCutShort (drop 8 rest))
-
--- after these whole records, the gate at this place is open and its record isn't whole
-pub record HasDamagedRecord (text : List ℕ) (place : ℕ) (image : List ℕ) : Type 0 where
-  pub payloads : List (List ℕ)
-  pub rest : List ℕ
-  pub text_fits : FitsLength text
-  pub payloads_fit : AllByRecursion FitsLength payloads
-  pub is : image ≡ front text payloads ++ 1 ∷ rest
-  pub place_is : place ≡ length (front text payloads)
-  pub cut : IsCutShort rest
-
--- the journal is damaged at this gate
-abbrev pub IsDamagedAt : List ℕ → ℕ → List ℕ → Type 0
-IsDamagedAt text place image =
-    ((place ≡ 0) × HasDamagedHeader image) ⊎ HasDamagedRecord text place image
+-- the image of a journal, or a fresh one with no record
+abbrev pub StandsFor : List ℕ → Contents → List ℕ → Type 0
+StandsFor text contents image = (IsFresh image × (contents ≡ nothing)) ⊎ Journals text contents image

@@ -1,4 +1,6 @@
-pub mod Appending
+pub mod Bytes
+pub mod Committing
+pub mod Damage
 pub mod Gates
 pub mod Image
 pub mod Inside
@@ -6,3 +8,5 @@ pub mod Journal
 pub mod Opening
 pub mod Reading
 pub mod Records
+pub mod Root
+pub mod Segment

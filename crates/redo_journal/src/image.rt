@@ -1,9 +1,11 @@
-//! The reading of an image.
-ghost use Rattle.std.specs.Prelude.{◌≡◌, ◌≢◌, ◌+◌, ◌^◌, ◌<◌, ◌≤◌, ◌∷◌, length, take, drop, slice_index, MatchOption, IfOk, IfErr};
+//! The reading of an image's header and records.
+ghost use Rattle.std.specs.Prelude.{◌≡◌, ◌≢◌, ◌⊎◌, ◌+◌, ◌^◌, ◌<◌, ◌≤◌, length, drop, slice_index, MatchOption, IfOk, IfErr};
 ghost use Rattle.std.specs.Bool.{OnTrue, OnFalse};
-ghost use Rattle.redo_journal.specs.Image.{length_of, IsCutShort, IsFresh, FitsLength, heading};
-ghost use Rattle.redo_journal.specs.Reading.{StandFrom, ReadsRecord, RefusesHeader, RefusesRecord, RefusesRecords};
+ghost use Rattle.redo_journal.specs.Bytes.{length_of, IsCutShort};
+ghost use Rattle.redo_journal.specs.Image.{IsFresh};
+ghost use Rattle.redo_journal.specs.Reading.{StandFrom, SkipsTo, SkipsRecord, EndsAt, ReadsHeader, ReadsRecord, RefusesHeader, RefusesRecord, RefusesRecords, RefusesSkip};
 
+use crate::live::is_root;
 use crate::record::Record;
 use crate::refusal::Refusal;
 use hs_disk::MARK;
@@ -12,7 +14,7 @@ use std::alloc::Global;
 
 // The place behind a text whose length stands at this one, or None where it, or the gate behind it,
 // lies past the end.
-fn end_of(image: &[u8], at: usize) -> Option<usize>
+pub(crate) fn end_of(image: &[u8], at: usize) -> Option<usize>
     requires { at ≤ length image.now }
     ensures { MatchOption result (IsCutShort (drop at image.now))
         (λ end. (end ≡ at + 4 + length_of (drop at image.now)) × (end < length image.now)
@@ -44,8 +46,7 @@ pub(crate) fn is_fresh(image: &[u8]) -> bool
 // The place of the first record's gate, behind a header with this schema text.
 pub(crate) fn read_header(image: &[u8], text: &[u8]) -> Result<usize, Refusal>
     requires begun { (slice_index image.now 0 ≡ 1) × (2 ≤ length image.now) }
-    ensures ok { IfOk result (λ first. (take first image.now ≡ 1 ∷ heading text.now)
-        × (first < length image.now) × FitsLength text.now) }
+    ensures ok { IfOk result (λ first. ReadsHeader text.now image.now first) }
     ensures err { IfErr result (RefusesHeader text.now image.now) }
 {
     if image.len() < 9 || &image[1..9] != MARK.as_slice() {
@@ -60,22 +61,48 @@ pub(crate) fn read_header(image: &[u8], text: &[u8]) -> Result<usize, Refusal>
     Ok(end)
 }
 
-// The record whose open gate stands at this place, and the place of the next gate.
-fn read_record(alloc: Global, image: &[u8], gate: usize) -> Result<(Record, usize), Refusal>
+// The payload of the record whose open gate stands at this place, and the place of the next gate.
+fn read_record(image: &[u8], gate: usize) -> Result<(&[u8], usize), Refusal>
     requires within { gate < length image.now }
     requires open_gate { slice_index image.now gate ≡ 1 }
-    ensures ok { IfOk result (λ read. ReadsRecord image.now gate read.0 read.1) }
+    ensures ok { IfOk result (λ read. ReadsRecord image.now gate read.0.now read.1) }
     ensures err { IfErr result (RefusesRecord image.now gate) }
 {
     let Some(next) = end_of(image, gate + 1) else {
         return Err(Refusal::Damaged(gate as u64));
     };
-    let payload = ByteText::of(alloc, &image[gate + 5..next])?;
-    let record = Record {
-        place: gate as u64,
-        payload,
-    };
-    Ok((record, next))
+    Ok((&image[gate + 5..next], next))
+}
+
+// The place of the gate behind the record at this one, unless this gate is closed or that of a root.
+fn skip_record(image: &[u8], gate: usize) -> Result<Option<usize>, Refusal>
+    requires { gate < length image.now }
+    ensures ok { IfOk result (λ next. MatchOption next (EndsAt gate image.now)
+        (SkipsRecord image.now gate)) }
+    ensures err { IfErr result (RefusesRecord image.now gate) }
+{
+    if image[gate] != 1 {
+        return Ok(None);
+    }
+    if is_root(image, gate) {
+        return Ok(None);
+    }
+    let (_payload, next) = read_record(image, gate)?;
+    Ok(Some(next))
+}
+
+// The place of the gate behind whole records from this place on: a closed one, or that of a root.
+pub(crate) fn skip_records(image: &[u8], first: usize) -> Result<usize, Refusal>
+    requires { first < length image.now }
+    ensures ok { IfOk result (λ gate. SkipsTo image.now first gate) }
+    ensures last { IfOk result (λ gate. EndsAt gate image.now) }
+    ensures err { IfErr result (RefusesSkip image.now first) }
+{
+    let mut gate = first;
+    while let Some(next) = skip_record(image, gate)? {
+        gate = next;
+    }
+    Ok(gate)
 }
 
 // The whole records from this place on, and the place of the closed gate behind them.
@@ -92,8 +119,12 @@ pub(crate) fn read_records(
     let mut records = Vec::new(alloc);
     let mut gate = first;
     while image[gate] == 1 {
-        let (record, next) = read_record(alloc, image, gate)?;
-        records.push(record)?;
+        let (payload, next) = read_record(image, gate)?;
+        let payload = ByteText::of(alloc, payload)?;
+        records.push(Record {
+            place: gate as u64,
+            payload,
+        })?;
         gate = next;
     }
     Ok((records, gate))

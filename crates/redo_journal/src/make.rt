@@ -1,13 +1,14 @@
 //! The making of a new journal.
-ghost use Rattle.std.specs.Prelude.{◌≡◌, ◌^◌, ◌<◌, ◌++◌, ◌∷◌, [], length, IfOk, OnOk};
+ghost use Rattle.std.specs.Prelude.{◌≡◌, ◌^◌, ◌<◌, ◌++◌, ◌∷◌, [], None, length, IfOk, OnOk};
 ghost use Rattle.std.specs.Int.{w32, to_be_bytes};
 ghost use Rattle.hs_disk.specs.Cause.{HasCause};
 ghost use Rattle.hs_disk.specs.Disk.{LeavesOnly, calls_after};
-ghost use Rattle.redo_journal.specs.Image.{ClosedAfter, IsFresh, StandsFor, front, mark};
+ghost use Rattle.redo_journal.specs.Bytes.{front, mark};
+ghost use Rattle.redo_journal.specs.Image.{IsFresh, IsImageAt, StandsFor, nothing};
 ghost use Rattle.redo_journal.specs.Gates.{Is, Throughout, Passes};
 
-use crate::gates::{set_gate, write_behind};
 use crate::refusal::DiskFault;
+use crate::writes::{set_byte, write_record};
 use hs_disk::Disk;
 
 // Leaves nothing on a disk that nothing was written to.
@@ -53,8 +54,8 @@ pub(crate) fn make<D: Disk>(disk: &mut D, text: &[u8]) -> Result<u64, DiskFault>
     requires fits { length text.now < 2 ^ 32 }
     requires fresh { D.tells → Throughout IsFresh (D.seen disk.old) (D.may_leave disk.old) }
     ensures moments { D.tells → LeavesOnly D.moment D.left_at disk.old disk.new
-        (StandsFor text.now []) }
-    ensures ok { D.tells → IfOk result (λ gate. Throughout (ClosedAfter (front text.now []))
+        (StandsFor text.now nothing) }
+    ensures ok { D.tells → IfOk result (λ gate. Throughout (IsImageAt text.now nothing None gate)
         (D.seen disk.new) (D.may_leave disk.new)) }
     ensures bytes { D.tells → OnOk result (D.seen disk.new ≡ front text.now [] ++ 0 ∷ []) }
     ensures place { IfOk result (λ gate. (gate ≡ length (front text.now [])) × (gate < 2 ^ 63)) }
@@ -66,7 +67,7 @@ pub(crate) fn make<D: Disk>(disk: &mut D, text: &[u8]) -> Result<u64, DiskFault>
     empty(disk)?;
     blank(disk)?;
     let head = marked(text.len() as u32);
-    write_behind(disk, 0, &head, text)?;
-    set_gate(disk, 0, 1)?;
+    write_record(disk, 1, &head, text)?;
+    set_byte(disk, 0, 1)?;
     Ok(13 + text.len() as u64)
 }

@@ -1,20 +1,24 @@
 //! The opening of a journal.
-ghost use Rattle.std.specs.Prelude.{◌≡◌, ◌≢◌, ◌^◌, ◌<◌, ◌≤◌, ◌++◌, ◌∷◌, ℕ, List, [], false, length, slice_index, IfOk, IfErr, OnOk, IsErrOf};
+ghost use Rattle.std.specs.Prelude.{◌≡◌, ◌≢◌, ◌+◌, ◌^◌, ◌<◌, ◌≤◌, ◌++◌, ◌∷◌, ℕ, [], None, Some, length, slice_index, IfOk, IfErr, OnOk, IsErrOf};
 ghost use Rattle.hs_disk.specs.Cause.{Rose, next_count};
 ghost use Rattle.hs_disk.specs.Disk.{LeavesOnly, AllImages, calls_after};
-ghost use Rattle.redo_journal.specs.Image.{Journals, IsFresh, StandsFor, front};
+ghost use Rattle.redo_journal.specs.Bytes.{front};
+ghost use Rattle.redo_journal.specs.Image.{Contents, IsFresh, StandsFor, nothing};
 ghost use Rattle.redo_journal.specs.Gates.{Is, Throughout};
-ghost use Rattle.redo_journal.specs.Journal.{StandsOn, IsJournalOn};
-ghost use Rattle.redo_journal.specs.Opening.{Opens, RefusesImage, RefusesLoad, RefusesReading};
-ghost use Rattle.redo_journal.specs.Records.{payloads_of, placed};
+ghost use Rattle.redo_journal.specs.Journal.{StandsOn, IsJournalOn, records};
+ghost use Rattle.redo_journal.specs.Opening.{Opens, IsPlainFrom, IsRootedFrom, StandUpTo, contents_of, RefusesImage, RefusesLoad, RefusesReading};
 
-use crate::image::{is_fresh, read_header, read_records};
+use crate::image::{is_fresh, read_header, read_records, skip_records};
 use crate::journal::Journal;
+use crate::live::{read_head, read_root};
 use crate::make::make;
-use crate::record::Record;
+use crate::opened::Opened;
 use crate::refusal::Refusal;
 use hs_disk::Disk;
 use std::alloc::Global;
+
+// A journal with so many records is not opened.
+const MAX_RECORDS: u64 = 1 << 63;
 
 /// Reads the journal on a disk, or makes a new one where nothing was written yet. It begins with a
 /// sync. After a failure it may be called again.
@@ -22,31 +26,32 @@ pub fn open_on<D: Disk>(
     alloc: Global,
     disk: &mut D,
     schema_text: &[u8],
-) -> Result<(Journal, Vec<Record>), Refusal>
+) -> Result<(Journal, Opened), Refusal>
     requires { length schema_text.now < 2 ^ 32 }
 
-    // What a read gives stands for the payloads that are handed out, and the journal stands behind
-    // them.
+    // What a read gives stands for what is handed out, and so does the journal.
     ensures reads { D.tells → IfOk result (λ opened.
-        StandsFor schema_text.now (payloads_of opened.1.items) (D.seen disk.old)) }
+        StandsFor schema_text.now (contents_of opened.1) (D.seen disk.old)) }
     ensures stands { D.tells → IfOk result (λ opened. StandsOn schema_text.now
-        (payloads_of opened.1.items) [] opened.0 (D.seen disk.new) (D.may_leave disk.new)) }
+        (contents_of opened.1) nothing opened.0 (D.seen disk.new) (D.may_leave disk.new)) }
     ensures is_journal { D.tells → IfOk result (λ opened.
         IsJournalOn opened.0 (D.seen disk.new) (D.may_leave disk.new)) }
-    ensures places { IfOk result (λ opened. opened.1.items
-        ≡ placed (length (front schema_text.now [])) (payloads_of opened.1.items)) }
-    ensures counted { IfOk result (λ opened. opened.0.records ≡ length opened.1.items) }
-    ensures quiet { IfOk result (λ opened. opened.0.due ≡ false) }
+    ensures places { IfOk result (λ opened.
+        StandUpTo opened.0.gate opened.1.records.items) }
+    ensures counted { IfOk result (λ opened. (opened.0.first ≡ opened.1.first)
+        × (opened.0.since ≡ length opened.1.records.items)) }
+    ensures low { IfOk result (λ opened. records opened.0 < 2 ^ 63) }
+    ensures quiet { IfOk result (λ opened. opened.0.doubt ≡ None) }
     ensures refused { D.tells → IfErr result (RefusesImage schema_text.now (D.seen disk.old)) }
 
     // What all images before the call stand for, they stand for at each moment of it and behind it.
-    ensures any_moment { D.tells → (payloads : List (List ℕ))
-        → AllImages (StandsFor schema_text.now payloads) (D.may_leave disk.old)
+    ensures any_moment { D.tells → (contents : Contents)
+        → AllImages (StandsFor schema_text.now contents) (D.may_leave disk.old)
         → LeavesOnly D.moment D.left_at disk.old disk.new
-        (StandsFor schema_text.now payloads) }
-    ensures again { D.tells → (payloads : List (List ℕ))
-        → AllImages (StandsFor schema_text.now payloads) (D.may_leave disk.old)
-        → AllImages (StandsFor schema_text.now payloads) (D.may_leave disk.new) }
+        (StandsFor schema_text.now contents) }
+    ensures again { D.tells → (contents : Contents)
+        → AllImages (StandsFor schema_text.now contents) (D.may_leave disk.old)
+        → AllImages (StandsFor schema_text.now contents) (D.may_leave disk.new) }
     ensures among { D.tells → D.may_leave disk.old (D.seen disk.old) }
 
     // A new journal has its header and a closed gate, after nine changing calls.
@@ -75,7 +80,12 @@ pub fn open_on<D: Disk>(
     let image = load(alloc, disk)?;
     if is_fresh(&image) {
         let gate = make(disk, schema_text)?;
-        return Ok((Journal::at(gate, 0), Vec::new(alloc)));
+        let opened = Opened {
+            first: 0,
+            area: None,
+            records: Vec::new(alloc),
+        };
+        return Ok((Journal::plain(gate, 0), opened));
     }
     read(alloc, &image, schema_text)
 }
@@ -108,14 +118,67 @@ fn load<D: Disk>(alloc: Global, disk: &mut D) -> Result<Vec<u8>, Refusal>
     Ok(image)
 }
 
-// The journal and the records of an image that something was written to.
-fn read(alloc: Global, image: &[u8], text: &[u8]) -> Result<(Journal, Vec<Record>), Refusal>
+// The journal on an image that something was written to, and what it stands for.
+fn read(alloc: Global, image: &[u8], text: &[u8]) -> Result<(Journal, Opened), Refusal>
     requires begun { (slice_index image.now 0 ≡ 1) × (2 ≤ length image.now) }
     requires bound { length image.now < 2 ^ 63 }
-    ensures ok { IfOk result (λ opened. Opens text.now image.now opened.0 opened.1.items) }
+    ensures ok { IfOk result (λ opened. Opens text.now image.now opened.0 opened.1) }
     ensures err { IfErr result (RefusesReading text.now image.now) }
 {
     let first = read_header(image, text)?;
+    let last = skip_records(image, first)?;
+    if image[last] == 1 {
+        return read_rooted(alloc, image, last, text);
+    }
+    read_plain(alloc, image, first, text)
+}
+
+// The same, where whole records stand behind the header and then a gate that is closed.
+fn read_plain(
+    alloc: Global,
+    image: &[u8],
+    first: usize,
+    text: &[u8],
+) -> Result<(Journal, Opened), Refusal>
+    requires skips { IsPlainFrom text.now image.now first }
+    requires bound { length image.now < 2 ^ 63 }
+    ensures ok { IfOk result (λ opened. Opens text.now image.now opened.0 opened.1) }
+    ensures err { IfErr result (RefusesReading text.now image.now) }
+{
     let (records, gate) = read_records(alloc, image, first)?;
-    Ok((Journal::at(gate as u64, records.len() as u64), records))
+    let journal = Journal::plain(gate as u64, records.len() as u64);
+    let opened = Opened {
+        first: 0,
+        area: None,
+        records,
+    };
+    Ok((journal, opened))
+}
+
+// The same, where a root stands at this gate.
+fn read_rooted(
+    alloc: Global,
+    image: &[u8],
+    gate: usize,
+    text: &[u8],
+) -> Result<(Journal, Opened), Refusal>
+    requires root { IsRootedFrom text.now image.now gate }
+    requires bound { length image.now < 2 ^ 63 }
+    ensures ok { IfOk result (λ opened. Opens text.now image.now opened.0 opened.1) }
+    ensures err { IfErr result (RefusesReading text.now image.now) }
+{
+    let root = read_root(image, gate);
+    let head = read_head(alloc, image, &root)?;
+    let (records, last) = read_records(alloc, image, head.end)?;
+    let count = records.len() as u64;
+    if head.first >= MAX_RECORDS - count {
+        return Err(Refusal::Damaged(root.gate));
+    }
+    let journal = Journal::rooted(root, last as u64, head.first, count);
+    let opened = Opened {
+        first: head.first,
+        area: Some(head.area),
+        records,
+    };
+    Ok((journal, opened))
 }

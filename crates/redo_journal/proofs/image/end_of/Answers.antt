@@ -1,6 +1,6 @@
 use Rattle.std.proofs.Common.{◌≡◌, length, drop, arith, ap, length-drop}
 use Rattle.std.proofs.lemmas.List.{take_rest}
-use Rattle.redo_journal.specs.Image.{length_of}
+use Rattle.redo_journal.specs.Bytes.{length_of}
 use Rattle.redo_journal.proofs.ImageLemmas.{length_read}
 use Rattle.redo_journal.proofs.image.end_of.Goals as goal
 

@@ -5,6 +5,8 @@ pub returns : goal.returns
 returns c = record {
   new_journal = examples.new_journal;
   one_record = examples.one_record;
+  segment = examples.segment;
+  with_a_root = examples.with_a_root;
   no_gate_behind = examples.no_gate_behind;
   gate_behind = examples.gate_behind;
   closed_header = examples.closed_header;
