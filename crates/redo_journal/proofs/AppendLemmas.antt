@@ -1,17 +1,15 @@
 -- What a record that is written behind the last gate, and then that gate, make of an image.
-use Rattle.std.proofs.Common.{◌≡◌, ◌≢◌, ◌⊎◌, inl, inr, ℕ, ◌+◌, ◌^◌, ◌<◌, ◌≤◌, List, [], ◌∷◌, ◌++◌, length, refl, sym, ◌∙◌, ap, subst, arith, append_assoc, length-append}
-use Rattle.std.specs.Prelude.{Option, None, Some}
+use Rattle.std.proofs.Common.{◌≡◌, ◌≢◌, inl, inr, ℕ, ◌+◌, ◌^◌, ◌<◌, ◌≤◌, List, [], ◌∷◌, ◌++◌, length, ap, subst, arith}
+use Rattle.std.specs.Prelude.{None}
 use Rattle.std.specs.Int.{w32, to_be_bytes}
 use Rattle.std.proofs.lemmas.Bool.{cases_eq}
 use Rattle.hs_disk.specs.Disk.{written, Torn}
-use Rattle.redo_journal.specs.Bytes.{FitsLength, StandsAt, ClosedAt, counted}
-use Rattle.redo_journal.specs.Gates.{TornFrom}
-use Rattle.redo_journal.specs.Image.{Contents, Journals, IsImageAt, added}
+use Rattle.redo_journal.specs.Bytes.{FitsLength, StandsAt, counted}
+use Rattle.redo_journal.specs.Image.{Contents, added}
 use Rattle.redo_journal.specs.Journal.{Standing, IsOf, InDoubt, records}
 use Rattle.redo_journal.specs.Root.{IsRoot}
-use Rattle.redo_journal.specs.declared.doubt.Doubt.{Doubt}
 use Rattle.redo_journal.proofs.FormLemmas.{form_kept, form_push, length-counted, length-push, all-push}
-use Rattle.redo_journal.proofs.StandLemmas.{kept, closed_kept, closed_within, stands_within, stands_split, stands_join, stands_written, torn_written, length-written}
+use Rattle.redo_journal.proofs.StandLemmas.{kept, closed_kept, closed_within, stands_split, stands_join, stands_written, torn_written}
 
 pub counted_is : (head payload : List ℕ) → head ≡ to_be_bytes w32 (length payload) → head ++ payload ≡ counted payload
 unfolding counted

@@ -1,10 +1,10 @@
 -- What a call that gives a journal new contents does, of what its steps leave.
 use Rattle.std.proofs.Common.{◌≡◌, ◌⊎◌, inl, inr, ℕ, false, List, sym, subst, Result, Ok, Err}
-use Rattle.std.specs.Prelude.{Option, None, Some, OnOk, OnErr}
+use Rattle.std.specs.Prelude.{Option, None, OnOk, OnErr}
 use Rattle.hs_disk.specs.Disk.{AllImages, LeavesOnly}
 use Rattle.redo_journal.specs.Committing.{Commits}
 use Rattle.redo_journal.specs.Gates.{Is, Syncs, Throughout, TornFrom}
-use Rattle.redo_journal.specs.Image.{Contents, Journals}
+use Rattle.redo_journal.specs.Image.{Contents}
 use Rattle.redo_journal.specs.Journal.{Standing, IsOf, InDoubt, Holds, StandsOn, ShowsOld, ShowsOldOrNew, is_due}
 use Rattle.redo_journal.specs.declared.doubt.Doubt.{Doubt}
 use Rattle.redo_journal.proofs.DoubtLemmas.{of_shows, doubt_kept, doubt_shows, shows_old, shows_only}

@@ -1,5 +1,5 @@
 -- What an image shows while a byte is in doubt, and what a write of that byte leaves.
-use Rattle.std.proofs.Common.{◌≡◌, ◌⊎◌, inl, inr, ℕ, ◌<◌, true, false, List, [], ◌∷◌, length, get_or, refl, sym, subst, arith}
+use Rattle.std.proofs.Common.{◌≡◌, ◌⊎◌, inl, inr, ℕ, true, false, List, [], ◌∷◌, get_or, refl, sym, subst, arith}
 use Rattle.std.specs.Prelude.{Option, None, Some, is_some}
 use Rattle.std.proofs.lemmas.Bool.{true≢false}
 use Rattle.hs_disk.specs.Disk.{written, Torn}

@@ -1,13 +1,13 @@
 -- A journal up to its last gate: what a write leaves of it, and one record more.
-use Rattle.std.proofs.Common.{◌≡◌, ◌≢◌, ◌⊎◌, inl, inr, ℕ, ◌+◌, ◌^◌, ◌<◌, ◌≤◌, Bool, true, false, List, [], ◌∷◌, ◌++◌, length, refl, sym, ◌∙◌, ap, subst, arith, append_assoc, length-append}
+use Rattle.std.proofs.Common.{◌≡◌, ◌⊎◌, inl, inr, ℕ, ◌+◌, ◌^◌, ◌<◌, ◌≤◌, Bool, true, false, List, [], ◌∷◌, ◌++◌, length, sym, ◌∙◌, ap, subst, arith, append_assoc, length-append}
 use Rattle.std.specs.Prelude.{Option, None, Some}
 use Rattle.std.specs.List.{AllByRecursion}
 use Rattle.std.specs.Int.{w32, w64, to_be_bytes}
 use Rattle.std.proofs.lemmas.List.{append-nil}
 use Rattle.hs_disk.specs.Disk.{Torn}
-use Rattle.redo_journal.specs.Bytes.{FitsLength, StandsAt, front, heading, records_of, counted, segment_front, segment_head}
-use Rattle.redo_journal.specs.Root.{NoneIsRoot, IsRoot, HasRoot, HasCell, Selects, root_mark, root_end, cell_place}
-use Rattle.redo_journal.specs.Image.{IsPlain, IsSegmentAt, IsRooted, IsForm}
+use Rattle.redo_journal.specs.Bytes.{StandsAt, front, heading, records_of, counted, segment_front, segment_head}
+use Rattle.redo_journal.specs.Root.{IsRoot, HasRoot, HasCell, Selects, root_mark, root_end, cell_place}
+use Rattle.redo_journal.specs.Image.{IsSegmentAt, IsRooted, IsForm}
 use Rattle.redo_journal.specs.declared.root.Root.{Root}
 use Rattle.redo_journal.proofs.StandLemmas.{Apart, kept, stands_join}
 

@@ -1,5 +1,5 @@
 -- What follows a journal's last gate is free.
-use Rattle.std.proofs.Common.{◌≡◌, ◌≤◌, inl, inr, ℕ, ◌+◌, List, [], ◌∷◌, ◌++◌, length, take, drop, refl, sym, ◌∙◌, arith, length-append}
+use Rattle.std.proofs.Common.{◌≤◌, inl, ℕ, ◌+◌, List, [], ◌∷◌, ◌++◌, length, refl, sym, ◌∙◌, arith, length-append}
 use Rattle.std.proofs.lemmas.List.{drop_all, take_all, take_at}
 use Rattle.hs_disk.specs.Disk.{Torn}
 use Rattle.redo_journal.specs.Damage.{IsDamagedAt}

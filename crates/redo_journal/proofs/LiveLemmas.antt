@@ -1,5 +1,5 @@
 -- What a root and the head of a segment are read from.
-use Rattle.std.proofs.Common.{◌≡◌, inl, inr, ℕ, zero, suc, ◌+◌, ◌-◌, ◌<◌, ◌≤◌, ◌^◌, Bool, true, false, List, [], ◌∷◌, ◌++◌, length, get_or, take, drop, refl, sym, ◌∙◌, ap, subst, arith, length-drop}
+use Rattle.std.proofs.Common.{◌≡◌, inl, inr, ℕ, zero, suc, ◌+◌, ◌-◌, ◌<◌, ◌≤◌, ◌^◌, Bool, List, length, get_or, take, drop, refl, sym, ◌∙◌, ap, subst, arith, length-drop}
 use Rattle.std.specs.Prelude.{◌%◌, nat_eq}
 use Rattle.std.specs.Int.{w64, to_be_bytes, from_be_bytes}
 use Rattle.std.proofs.lemmas.Bool.{cases_lt}
@@ -9,7 +9,6 @@ use Rattle.std.proofs.Math.Nat.{mod-lt}
 use Rattle.redo_journal.specs.Bytes.{StandsAt, counted, length_of, segment_head}
 use Rattle.redo_journal.specs.Reading.{IsRootAt, EndsAt, ReadsRoot, ReadsHead}
 use Rattle.redo_journal.specs.Root.{cell_number, cell_place, root_end}
-use Rattle.redo_journal.specs.declared.head.Head.{Head}
 use Rattle.redo_journal.specs.declared.root.Root.{Root}
 use Rattle.redo_journal.proofs.FormLemmas.{cell_behind, length-segment_head}
 use Rattle.redo_journal.proofs.ImageLemmas.{ReadsText, reads_text}

@@ -1,14 +1,13 @@
 -- What an image is, of which the header, the root and the records are read.
-use Rattle.std.proofs.Common.{◌≡◌, ◌≢◌, ◌⊎◌, inl, inr, ℕ, ◌+◌, ◌-◌, ◌^◌, ◌<◌, ◌≤◌, List, [], ◌∷◌, ◌++◌, length, get_or, refl, sym, ◌∙◌, ap, subst, arith, length-append}
+use Rattle.std.proofs.Common.{◌≡◌, ◌≢◌, inl, inr, ℕ, ◌+◌, ◌^◌, ◌<◌, ◌≤◌, List, [], ◌∷◌, length, get_or, refl, sym, ◌∙◌, ap, subst, arith, length-append}
 use Rattle.std.specs.Prelude.{None, Some}
 use Rattle.std.specs.List.{AllByRecursion}
-use Rattle.redo_journal.specs.Bytes.{FitsLength, StandsAt, ClosedAt, counted, front, heading, records_of, segment_front, segment_head}
+use Rattle.redo_journal.specs.Bytes.{StandsAt, ClosedAt, counted, front, heading, records_of, segment_head}
 use Rattle.redo_journal.specs.Root.{HasRoot, NoneIsRoot, root_mark}
 use Rattle.redo_journal.specs.Records.{payloads_of, placed}
-use Rattle.redo_journal.specs.Image.{IsImageAt, IsRooted}
-use Rattle.redo_journal.specs.Damage.{HasDamagedRecord, IsDamagedAt}
-use Rattle.redo_journal.specs.Reading.{RunFrom, BreaksAt, BreakOffAt, StandFrom, SkipsTo, SkipBreaksAt, IsRootAt, ReadsHeader, ReadsRoot, ReadsHead, RefusesHeader, RefusesHead, RefusesRecords, RefusesSkip}
-use Rattle.redo_journal.specs.Journal.{Standing, IsOf}
+use Rattle.redo_journal.specs.Image.{IsRooted}
+use Rattle.redo_journal.specs.Reading.{RunFrom, BreakOffAt, StandFrom, ReadsHeader, ReadsRoot, ReadsHead, RefusesHeader, RefusesHead, RefusesRecords, RefusesSkip}
+use Rattle.redo_journal.specs.Journal.{IsOf}
 use Rattle.redo_journal.specs.Opening.{IsPlainFrom, IsRootedFrom, RefusesReading, StandUpTo}
 use Rattle.redo_journal.specs.declared.head.Head.{Head}
 use Rattle.redo_journal.specs.declared.record.Record.{Record}

@@ -1,8 +1,8 @@
 -- What an opening hands out, of what the image is that was read.
-use Rattle.std.proofs.Common.{◌≡◌, inl, inr, List, ℕ, refl, sym, subst}
+use Rattle.std.proofs.Common.{inr, List, ℕ, refl}
 use Rattle.std.specs.Prelude.{None, Result, Ok, Err, IfErr}
 use Rattle.redo_journal.specs.Gates.{Is, Throughout}
-use Rattle.redo_journal.specs.Image.{Contents, IsImageAt, Journals, StandsFor, nothing}
+use Rattle.redo_journal.specs.Image.{IsImageAt, StandsFor, nothing}
 use Rattle.redo_journal.specs.Journal.{Standing, IsOf, IsJournalOn, StandsOn}
 use Rattle.redo_journal.specs.Opening.{Opens, RefusesImage, RefusesReading, contents_of}
 use Rattle.redo_journal.specs.declared.opened.Opened.{Opened}

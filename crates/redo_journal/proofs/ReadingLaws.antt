@@ -1,15 +1,14 @@
 -- An image reads one way.
-use Rattle.std.proofs.Common.{◌≡◌, ◌≢◌, ◌⊎◌, inl, inr, ℕ, ◌+◌, ◌^◌, ◌<◌, ◌≤◌, List, [], ◌∷◌, ◌++◌, length, get_or, take, drop, refl, sym, ◌∙◌, ap, subst, arith, append_assoc, length-append, length-drop}
+use Rattle.std.proofs.Common.{◌≡◌, ◌≢◌, ◌⊎◌, inl, inr, ℕ, ◌+◌, ◌^◌, ◌<◌, ◌≤◌, List, [], ◌∷◌, ◌++◌, length, drop, refl, sym, ◌∙◌, ap, subst, arith, length-drop}
 use Rattle.std.specs.Prelude.{Option, None, Some}
 use Rattle.std.specs.List.{AllByRecursion}
-use Rattle.redo_journal.specs.Bytes.{FitsLength, StandsAt, ClosedAt, IsCutShort, front, heading, counted, mark}
+use Rattle.redo_journal.specs.Bytes.{FitsLength, StandsAt, ClosedAt, IsCutShort, front, heading}
 use Rattle.redo_journal.specs.Damage.{HasOtherText, HasDamagedHeader, HasDamagedRecord, HasDamagedRoot, HasDamagedSegment, HasHighNumber, IsDamagedAt}
 use Rattle.redo_journal.specs.Image.{Contents, Journals, IsForm, IsRooted, IsSegmentAt, IsFresh}
 use Rattle.redo_journal.specs.Opening.{IsRefusedAt}
 use Rattle.redo_journal.specs.Reading.{BreaksAt, IsRootAt}
-use Rattle.redo_journal.specs.Root.{IsRoot, HasRoot, Selects, root_end}
+use Rattle.redo_journal.specs.Root.{Selects, root_end}
 use Rattle.redo_journal.specs.declared.root.Root.{Root}
-use Rattle.redo_journal.proofs.FormLemmas.{length-counted}
 use Rattle.redo_journal.proofs.OpenLemmas.{Any}
 use Rattle.redo_journal.proofs.RootLaws.{FirstRun, first_run, one_first, root_run, one_root, one_segment, segment_not_cut, far}
 use Rattle.redo_journal.proofs.RunLemmas.{Blocks, shut_blocks, broken_blocks, root_blocks, root_not_shut, root_not_broken, shut_not_broken, same_text, not_cut}

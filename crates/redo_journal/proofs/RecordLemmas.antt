@@ -1,17 +1,16 @@
 -- One record more, and a record that is a root.
-use Rattle.std.proofs.Common.{◌≡◌, ◌≢◌, ◌⊎◌, inl, inr, ℕ, ◌+◌, ◌<◌, List, [], ◌∷◌, ◌++◌, length, get_or, take, drop, refl, sym, ◌∙◌, ap, subst, arith, append_assoc, length-append, take-append-drop}
-use Rattle.std.specs.List.{AllByRecursion}
+use Rattle.std.proofs.Common.{◌≡◌, ℕ, ◌+◌, ◌<◌, List, [], ◌∷◌, ◌++◌, length, drop, refl, sym, ◌∙◌, ap, subst, arith, length-append, take-append-drop}
 use Rattle.std.specs.Int.{w32, to_be_bytes}
 use Rattle.std.proofs.lemmas.List.{map-append}
 use Rattle.redo_journal.specs.Bytes.{FitsLength, StandsAt, records_of, counted}
-use Rattle.redo_journal.specs.Root.{IsRoot, NoneIsRoot, root_mark}
+use Rattle.redo_journal.specs.Root.{IsRoot, root_mark}
 use Rattle.redo_journal.specs.Records.{payloads_of, placed}
 use Rattle.redo_journal.specs.Reading.{RunFrom, BreaksAt, StandFrom, SkipsTo, SkipsRecord, ReadsRecord, RefusesRecord, RefusesRecords, RefusesSkip, IsRootAt}
 use Rattle.redo_journal.specs.declared.record.Record.{Record}
 use Rattle.redo_journal.specs.declared.refusal.Refusal.{Refusal}
 use Rattle.redo_journal.specs.declared.refusal.Refusal.TheVariants.{OtherSchema, Damaged, DiskFault, NoMemory}
 use Rattle.redo_journal.proofs.FormLemmas.{records_of-push, length-counted, length-more, all-push}
-use Rattle.redo_journal.proofs.StandLemmas.{byte_stands, stands_join, stands_split}
+use Rattle.redo_journal.proofs.StandLemmas.{stands_join, stands_split}
 
 pub payloads_of-push : (records : List Record) (new : Record) → payloads_of (records ++ new ∷ []) ≡ payloads_of records ++ new.payload ∷ []
 payloads_of-push records new = map-append (λ (r : Record). r.payload) records (new ∷ [])

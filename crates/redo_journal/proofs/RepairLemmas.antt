@@ -1,6 +1,6 @@
 -- What a repair does, and what follows it.
-use Rattle.std.proofs.Common.{◌≡◌, ◌⊎◌, inl, inr, ⊎_elim, ℕ, true, false, List, [], ◌∷◌, refl, sym, ◌∙◌, ap, subst, Result, Ok, Err}
-use Rattle.std.specs.Prelude.{Option, None, Some, is_some, OnOk, OnErr}
+use Rattle.std.proofs.Common.{◌≡◌, inl, inr, ⊎_elim, ℕ, false, List, [], ◌∷◌, sym, ◌∙◌, ap, subst, Result}
+use Rattle.std.specs.Prelude.{Option, None, Some, is_some, OnOk}
 use Rattle.std.proofs.lemmas.Bool.{true≢false}
 use Rattle.hs_disk.specs.Disk.{LeavesOnly, written}
 use Rattle.redo_journal.specs.Committing.{Commits, Repairs}

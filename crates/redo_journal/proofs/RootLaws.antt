@@ -1,17 +1,17 @@
 -- An image has one root, and one segment where it says.
-use Rattle.std.proofs.Common.{◌≡◌, ◌⊎◌, inl, inr, ℕ, ◌+◌, ◌-◌, ◌<◌, ◌≤◌, Bool, true, false, List, [], ◌∷◌, ◌++◌, length, drop, refl, sym, ◌∙◌, ap, subst, arith, length-append}
+use Rattle.std.proofs.Common.{◌≡◌, ℕ, ◌+◌, ◌<◌, ◌≤◌, Bool, true, false, List, [], ◌∷◌, length, drop, refl, sym, ◌∙◌, ap, subst, arith, length-append}
 use Rattle.std.specs.Prelude.{◌%◌}
 use Rattle.std.specs.List.{AllByRecursion}
 use Rattle.std.specs.Int.{w64, to_be_bytes, from_be_bytes}
 use Rattle.std.proofs.lemmas.Nat.{from_be_bytes-to_be_bytes_8}
-use Rattle.redo_journal.specs.Bytes.{FitsLength, StandsAt, ClosedAt, IsCutShort, counted, front, heading, records_of, segment_head}
-use Rattle.redo_journal.specs.Image.{IsRooted, IsSegmentAt}
-use Rattle.redo_journal.specs.Reading.{RunFrom, BreaksAt, IsRootAt}
+use Rattle.redo_journal.specs.Bytes.{FitsLength, StandsAt, IsCutShort, counted, front, heading, records_of, segment_head}
+use Rattle.redo_journal.specs.Image.{IsSegmentAt}
+use Rattle.redo_journal.specs.Reading.{RunFrom, IsRootAt}
 use Rattle.redo_journal.specs.Root.{IsRoot, NoneIsRoot, HasRoot, HasCell, Selects, cell_number, cell_place, root_mark, root_end}
 use Rattle.redo_journal.specs.declared.root.Root.{Root}
-use Rattle.redo_journal.proofs.FormLemmas.{length-counted, length-segment_head}
+use Rattle.redo_journal.proofs.FormLemmas.{length-segment_head}
 use Rattle.redo_journal.proofs.OpenLemmas.{Any, all_any}
-use Rattle.redo_journal.proofs.RunLemmas.{Blocks, one_run, same_gate, same_counted, counted_not_cut, root_blocks}
+use Rattle.redo_journal.proofs.RunLemmas.{Blocks, one_run, same_gate, same_counted, counted_not_cut}
 use Rattle.redo_journal.proofs.StandLemmas.{same_byte, same_bytes, stands_split}
 
 -- behind a whole header, whole records that are no roots stand up to this gate

@@ -1,6 +1,6 @@
 -- What a segment in the free part of an image, the other cell and then the selector make of it.
-use Rattle.std.proofs.Common.{◌≡◌, ◌≢◌, ◌⊎◌, inl, inr, ℕ, ◌+◌, ◌^◌, ◌<◌, ◌≤◌, ◌-◌, Bool, true, false, List, [], ◌∷◌, length, sym, ◌∙◌, ap, subst, arith}
-use Rattle.std.specs.Prelude.{Option, None, Some, ◌%◌, not, nat_le, if◌then◌else◌}
+use Rattle.std.proofs.Common.{◌≡◌, ◌⊎◌, inl, inr, ℕ, ◌+◌, ◌^◌, ◌<◌, ◌≤◌, ◌-◌, Bool, true, false, List, [], ◌∷◌, length, ◌∙◌, ap, arith}
+use Rattle.std.specs.Prelude.{None, Some, ◌%◌, not, nat_le, if◌then◌else◌}
 use Rattle.std.specs.Int.{w64, to_be_bytes}
 use Rattle.std.proofs.lemmas.Bool.{cases_Bool, cases_eq}
 use Rattle.std.proofs.lemmas.Bool.Decides.{nat_tests}
@@ -10,13 +10,12 @@ use Rattle.redo_journal.specs.Bytes.{StandsAt}
 use Rattle.redo_journal.specs.Gates.{TornFrom}
 use Rattle.redo_journal.specs.Image.{Contents, area_alone}
 use Rattle.redo_journal.specs.Journal.{Standing, IsOf, InDoubt}
-use Rattle.redo_journal.specs.Root.{HasRoot, Selects, cell_number, cell_place, root_end, segment_place}
+use Rattle.redo_journal.specs.Root.{HasRoot, cell_number, cell_place, root_end, segment_place}
 use Rattle.redo_journal.specs.Segment.{IsSegment}
-use Rattle.redo_journal.specs.declared.doubt.Doubt.{Doubt}
 use Rattle.redo_journal.specs.declared.root.Root.{Root}
 use Rattle.redo_journal.proofs.FormLemmas.{cell_behind, form_kept_apart, form_places, form_root, form_selected, has_root_kept}
 use Rattle.redo_journal.proofs.SegmentLemmas.{cell_holds, names_segment, turned}
-use Rattle.redo_journal.proofs.StandLemmas.{Apart, kept, closed_kept, closed_within, stands_written, torn_written, length-written}
+use Rattle.redo_journal.proofs.StandLemmas.{Apart, kept, closed_kept, closed_within, stands_written, torn_written}
 
 -- a journal with a root, and no byte in doubt
 abbrev pub rooted : ℕ → ℕ → ℕ → Root → Standing

@@ -1,11 +1,11 @@
 -- A run of whole records ends at one gate.
-use Rattle.std.proofs.Common.{◌≡◌, ◌≢◌, ◌⊎◌, inl, inr, ℕ, ◌+◌, ◌-◌, ◌<◌, List, [], ◌∷◌, ◌++◌, length, get_or, take, drop, refl, sym, ◌∙◌, ap, subst, arith, append_assoc, length-append, length-drop, take-append-drop}
+use Rattle.std.proofs.Common.{◌≡◌, ℕ, ◌+◌, ◌<◌, List, [], ◌∷◌, ◌++◌, length, take, drop, refl, sym, ◌∙◌, ap, subst, arith, append_assoc, length-append, length-drop, take-append-drop}
 use Rattle.std.specs.List.{AllByRecursion}
 use Rattle.std.specs.Int.{w32, to_be_bytes, from_be_bytes}
-use Rattle.std.proofs.lemmas.List.{take_at, drop_at, take-append-le, drop-drop}
+use Rattle.std.proofs.lemmas.List.{take_at, drop_at, take-append-le}
 use Rattle.std.proofs.lemmas.Nat.{from_be_bytes-to_be_bytes_4}
 use Rattle.redo_journal.specs.Bytes.{FitsLength, StandsAt, ClosedAt, IsCutShort, counted, length_of, records_of}
-use Rattle.redo_journal.specs.Root.{IsRoot, root_mark}
+use Rattle.redo_journal.specs.Root.{IsRoot}
 use Rattle.redo_journal.specs.Reading.{RunFrom, BreaksAt, ReadsRecord, IsRootAt}
 use Rattle.redo_journal.proofs.FormLemmas.{length-counted}
 use Rattle.redo_journal.proofs.StandLemmas.{byte_is, stands_split}

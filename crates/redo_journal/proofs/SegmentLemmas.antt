@@ -1,11 +1,11 @@
 -- A segment that is handed in, and what it makes of an image.
-use Rattle.std.proofs.Common.{◌≡◌, ℕ, ◌+◌, ◌-◌, ◌^◌, ◌<◌, Bool, true, false, List, [], ◌∷◌, ◌++◌, length, take, drop, refl, sym, ◌∙◌, ap, subst, arith, append_assoc, length-append}
-use Rattle.std.specs.Prelude.{Option, None, Some}
+use Rattle.std.proofs.Common.{◌≡◌, ℕ, ◌+◌, ◌-◌, ◌^◌, ◌<◌, List, [], ◌∷◌, ◌++◌, length, take, drop, refl, sym, ◌∙◌, ap, subst, arith, append_assoc, length-append}
+use Rattle.std.specs.Prelude.{None, Some}
 use Rattle.std.specs.Int.{w64, to_be_bytes, from_be_bytes}
 use Rattle.std.proofs.lemmas.List.{append-nil, drop_at, take_at}
 use Rattle.std.proofs.lemmas.Nat.{from_be_bytes-to_be_bytes_8}
-use Rattle.redo_journal.specs.Bytes.{FitsLength, StandsAt, ClosedAt, counted, segment_front, segment_head}
-use Rattle.redo_journal.specs.Image.{Contents, IsImageAt, IsSegmentAt, area_alone}
+use Rattle.redo_journal.specs.Bytes.{FitsLength, StandsAt, counted, segment_head}
+use Rattle.redo_journal.specs.Image.{area_alone}
 use Rattle.redo_journal.specs.Journal.{Standing, IsOf}
 use Rattle.redo_journal.specs.Root.{HasCell, HasRoot, Selects, cell_place, root_end}
 use Rattle.redo_journal.specs.Segment.{IsSegment, number_of}

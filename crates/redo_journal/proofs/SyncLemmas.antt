@@ -1,5 +1,5 @@
 -- What writes and a sync behind them leave.
-use Rattle.std.proofs.Common.{◌≡◌, ℕ, ◌+◌, List, length, Result, Ok, Err, sym, ◌∙◌}
+use Rattle.std.proofs.Common.{◌≡◌, ℕ, List, Result}
 use Rattle.std.specs.Prelude.{OnOk}
 use Rattle.hs_disk.specs.Disk.{Torn, Follows, AddsNone, Only, Elapses, LeavesOnly}
 use Rattle.redo_journal.specs.Gates.{Is, Syncs, Throughout, TornFrom}

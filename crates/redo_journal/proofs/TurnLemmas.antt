@@ -1,18 +1,15 @@
 -- What a root and a segment behind a journal without a root, and then the gate, make of an image.
-use Rattle.std.proofs.Common.{◌≡◌, ◌≢◌, ◌⊎◌, inl, inr, ℕ, ◌+◌, ◌-◌, ◌^◌, ◌<◌, ◌≤◌, false, List, [], ◌∷◌, ◌++◌, length, sym, ◌∙◌, ap, subst, arith, append_assoc}
+use Rattle.std.proofs.Common.{◌≡◌, ◌≢◌, inl, inr, ℕ, ◌+◌, ◌-◌, ◌^◌, ◌<◌, ◌≤◌, List, [], ◌∷◌, ◌++◌, length, subst, arith}
 use Rattle.std.specs.Prelude.{Option, None, Some}
-use Rattle.std.specs.List.{AllByRecursion}
 use Rattle.std.specs.Int.{w64, to_be_bytes}
 use Rattle.std.proofs.lemmas.Bool.{cases_eq}
 use Rattle.hs_disk.specs.Disk.{written, Torn}
-use Rattle.redo_journal.specs.Bytes.{FitsLength, StandsAt, front}
+use Rattle.redo_journal.specs.Bytes.{StandsAt, front}
 use Rattle.redo_journal.specs.Gates.{TornFrom}
 use Rattle.redo_journal.specs.Image.{Contents, IsForm, IsPlain, area_alone}
 use Rattle.redo_journal.specs.Journal.{Standing, IsOf, InDoubt}
-use Rattle.redo_journal.specs.Root.{HasRoot, Selects, new_root, root_mark}
+use Rattle.redo_journal.specs.Root.{new_root, root_mark}
 use Rattle.redo_journal.specs.Segment.{IsSegment}
-use Rattle.redo_journal.specs.declared.doubt.Doubt.{Doubt}
-use Rattle.redo_journal.specs.declared.root.Root.{Root}
 use Rattle.redo_journal.proofs.AppendLemmas.{image_kept, gate_within}
 use Rattle.redo_journal.proofs.FormLemmas.{form_kept}
 use Rattle.redo_journal.proofs.SegmentLemmas.{cell_holds, names_segment, turned}

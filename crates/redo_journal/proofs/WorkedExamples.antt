@@ -1,7 +1,7 @@
 -- Worked examples of a journal's bytes.
-use Rattle.std.proofs.Common.{◌≡◌, ℕ, false, List, [], ◌∷◌, ◌++◌, refl, arith}
+use Rattle.std.proofs.Common.{◌≡◌, ℕ, false, List, [], ◌∷◌, refl, arith}
 use Rattle.std.specs.Prelude.{None, Some}
-use Rattle.redo_journal.specs.Bytes.{front, records_of, counted, segment_head, length_of, IsCutShort}
+use Rattle.redo_journal.specs.Bytes.{records_of, counted, segment_head, length_of, IsCutShort}
 use Rattle.redo_journal.specs.Image.{IsFresh, Journals, area_alone, nothing}
 use Rattle.redo_journal.specs.Segment.{IsSegment}
 

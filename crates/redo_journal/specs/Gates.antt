@@ -1,6 +1,6 @@
 -- What writes and syncs leave on a disk.
 use Rattle.std.specs.Prelude.{◌≡◌, ℕ, List, Result, OnOk, OnErr}
-use Rattle.hs_disk.specs.Disk.{AllImages, LeavesOnly, Only, Torn}
+use Rattle.hs_disk.specs.Disk.{LeavesOnly, Torn}
 
 -- these bytes and no other
 abbrev pub Is : List ℕ → List ℕ → Type 0

@@ -1,5 +1,5 @@
 -- What a journal stands for on its disk.
-use Rattle.std.specs.Prelude.{◌≡◌, ◌⊎◌, ℕ, ◌+◌, ◌-◌, ◌<◌, Bool, true, false, if◌then◌else◌, Option, None, Some, is_some, option_map, List, [], ◌∷◌, length}
+use Rattle.std.specs.Prelude.{◌≡◌, ◌⊎◌, ℕ, ◌+◌, ◌-◌, ◌<◌, Bool, true, if◌then◌else◌, Option, None, Some, is_some, option_map, List, [], ◌∷◌, length}
 use Rattle.hs_disk.specs.Disk.{written}
 use Rattle.redo_journal.specs.Image.{Contents, IsImageAt, Journals}
 use Rattle.redo_journal.specs.Gates.{Throughout}

@@ -1,7 +1,7 @@
 -- What the opening of a journal answers.
 use Rattle.std.specs.Prelude.{◌≡◌, ◌≢◌, ◌⊎◌, ℕ, ◌-◌, ◌<◌, ◌^◌, None, List, length, slice_index}
 use Rattle.redo_journal.specs.Bytes.{records_of}
-use Rattle.redo_journal.specs.Image.{Contents, count}
+use Rattle.redo_journal.specs.Image.{Contents}
 use Rattle.redo_journal.specs.Damage.{HasOtherText, HasHighNumber, IsDamagedAt}
 use Rattle.redo_journal.specs.Journal.{Standing, IsOf, records}
 use Rattle.redo_journal.specs.Reading.{IsRootAt, ReadsHeader, SkipsTo}

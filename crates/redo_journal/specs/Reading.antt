@@ -1,5 +1,5 @@
 -- What a reading of an image answers.
-use Rattle.std.specs.Prelude.{◌≡◌, ◌≢◌, ◌⊎◌, ℕ, ◌+◌, ◌^◌, ◌<◌, ◌≤◌, List, [], ◌∷◌, ◌++◌, length, get_or, drop}
+use Rattle.std.specs.Prelude.{◌≡◌, ◌≢◌, ◌⊎◌, ℕ, ◌+◌, ◌^◌, ◌<◌, ◌≤◌, List, [], ◌∷◌, length, get_or, drop}
 use Rattle.std.specs.List.{AllByRecursion}
 use Rattle.redo_journal.specs.Bytes.{FitsLength, StandsAt, IsCutShort, counted, heading, records_of, segment_head}
 use Rattle.redo_journal.specs.Root.{IsRoot, NoneIsRoot, HasCell, Selects, root_mark, root_end}

@@ -1,4 +1,4 @@
-use Rattle.std.proofs.Common.{◌≡◌, ◌+◌, ◌-◌, ◌∷◌, [], ◌++◌, ℕ, List, take, drop, ap, subst, ◌∙◌, arith}
+use Rattle.std.proofs.Common.{◌≡◌, ◌+◌, ◌-◌, ◌∷◌, [], ℕ, List, take, drop, ap, subst, arith}
 use Rattle.redo_journal.specs.Bytes.{StandsAt, counted}
 use Rattle.redo_journal.proofs.ImageLemmas.{reads_text}
 use Rattle.redo_journal.proofs.StandLemmas.{byte_stands, stands_join}

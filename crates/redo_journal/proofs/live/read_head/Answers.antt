@@ -1,4 +1,4 @@
-use Rattle.std.proofs.Common.{◌≡◌, ◌+◌, ◌-◌, ℕ, List, take, drop, ap, ◌∙◌, arith}
+use Rattle.std.proofs.Common.{◌≡◌, ◌+◌, ◌-◌, ℕ, take, drop, ap, ◌∙◌, arith}
 use Rattle.redo_journal.proofs.LiveLemmas.{reads_head}
 use Rattle.redo_journal.proofs.live.read_head.Goals as goal
 

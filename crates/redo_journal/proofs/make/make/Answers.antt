@@ -1,9 +1,9 @@
-use Rattle.std.proofs.Common.{◌≡◌, ◌∷◌, [], ◌++◌, ◌+◌, length, List, ℕ, refl, sym, subst, arith, ap, ◌∙◌}
+use Rattle.std.proofs.Common.{◌≡◌, ◌∷◌, [], ◌++◌, ◌+◌, length, List, ℕ, arith, ap, ◌∙◌}
 use Rattle.std.specs.Prelude.{None}
 use Rattle.hs_disk.specs.Disk.{calls_after, written}
 use Rattle.redo_journal.specs.Bytes.{StandsAt, heading}
 use Rattle.redo_journal.specs.Image.{IsFresh, IsImageAt, StandsFor, nothing}
-use Rattle.redo_journal.specs.Gates.{Is, Throughout, TornFrom}
+use Rattle.redo_journal.specs.Gates.{Throughout, TornFrom}
 use Rattle.redo_journal.proofs.CommitLemmas.{only_these}
 use Rattle.redo_journal.proofs.MakeLemmas.{length-front-nil, heading_is, fresh_stands, behind_fresh, header_written, gate_stands_for, gate_written, made_bytes}
 use Rattle.redo_journal.proofs.Moments.{joined, wider}

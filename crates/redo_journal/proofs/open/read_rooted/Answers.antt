@@ -1,7 +1,6 @@
-use Rattle.std.proofs.Common.{◌≡◌, ◌+◌, ◌<◌, ◌^◌, refl, subst, sym, ◌∙◌, arith, length, length-append}
+use Rattle.std.proofs.Common.{◌≡◌, ◌+◌, ◌<◌, ◌^◌, refl, subst, sym, arith, length}
 use Rattle.std.specs.Prelude.{Some}
 use Rattle.std.proofs.lemmas.Result.{err_from_is_err_and}
-use Rattle.redo_journal.specs.Bytes.{records_of}
 use Rattle.redo_journal.specs.Journal.{Standing}
 use Rattle.redo_journal.specs.Opening.{Opens}
 use Rattle.redo_journal.specs.Records.{payloads_of}

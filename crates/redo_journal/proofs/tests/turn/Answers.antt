@@ -1,4 +1,4 @@
-use Rattle.std.proofs.Common.{◌∷◌, [], arith, refl}
+use Rattle.std.proofs.Common.{◌∷◌, []}
 use Rattle.redo_journal.proofs.WorkedExamples.{segment, second_segment}
 use Rattle.redo_journal.proofs.tests.turn.Goals as goal
 

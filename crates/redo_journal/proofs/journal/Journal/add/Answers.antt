@@ -1,9 +1,9 @@
 use Rattle.std.proofs.Common.{◌≡◌, inl, inr, ℕ, ◌+◌, ◌<◌, ◌^◌, List, [], ◌∷◌, ◌++◌, length, refl, sym, ◌∙◌, ap, subst, arith}
-use Rattle.std.specs.Prelude.{Some, None}
+use Rattle.std.specs.Prelude.{Some}
 use Rattle.std.proofs.lemmas.Result.{IfOk-from_err}
 use Rattle.hs_disk.specs.Disk.{calls_after, written}
 use Rattle.redo_journal.specs.Bytes.{counted}
-use Rattle.redo_journal.specs.Gates.{Is, Throughout, TornFrom}
+use Rattle.redo_journal.specs.Gates.{Throughout, TornFrom}
 use Rattle.redo_journal.specs.Image.{Contents, added}
 use Rattle.redo_journal.specs.Inside.{standing}
 use Rattle.redo_journal.specs.Journal.{Standing, IsOf, InDoubt, StandsOn, records}

@@ -1,8 +1,7 @@
-use Rattle.std.proofs.Common.{◌≡◌, sym, ◌∙◌, ap, subst, arith, length}
+use Rattle.std.proofs.Common.{◌≡◌, sym, ◌∙◌, ap, subst, arith}
 use Rattle.std.specs.Prelude.{Some, None}
 use Rattle.redo_journal.specs.Committing.{Repairs}
 use Rattle.redo_journal.specs.Journal.{Standing}
-use Rattle.redo_journal.proofs.CallLemmas.{repaired}
 use Rattle.redo_journal.proofs.RepairLemmas.{doubted, repair_fails, repair_ends, no_repair}
 use Rattle.redo_journal.proofs.journal.Journal.repair.Goals as goal
 

@@ -1,12 +1,12 @@
-use Rattle.std.proofs.Common.{◌≡◌, inl, inr, ℕ, ◌+◌, ◌<◌, ◌≤◌, ◌^◌, List, [], ◌∷◌, length, refl, sym, ◌∙◌, ap, subst, arith}
-use Rattle.std.specs.Prelude.{Option, Some, None, not}
+use Rattle.std.proofs.Common.{◌≡◌, inl, inr, ℕ, ◌+◌, ◌<◌, ◌^◌, List, [], ◌∷◌, length, refl, sym, ◌∙◌, ap, subst, arith}
+use Rattle.std.specs.Prelude.{Some, None, not}
 use Rattle.std.specs.Int.{w64, to_be_bytes}
 use Rattle.std.proofs.lemmas.Result.{IfOk-from_err}
 use Rattle.hs_disk.specs.Disk.{calls_after, written}
-use Rattle.redo_journal.specs.Gates.{Is, Throughout, TornFrom}
+use Rattle.redo_journal.specs.Gates.{Throughout, TornFrom}
 use Rattle.redo_journal.specs.Image.{Contents, area_alone}
 use Rattle.redo_journal.specs.Inside.{standing}
-use Rattle.redo_journal.specs.Journal.{Standing, IsOf, InDoubt, Holds, StandsOn}
+use Rattle.redo_journal.specs.Journal.{Standing, IsOf, InDoubt, StandsOn}
 use Rattle.redo_journal.specs.Root.{cell_number, cell_place, root_end}
 use Rattle.redo_journal.specs.declared.doubt.Doubt.{Doubt}
 use Rattle.redo_journal.specs.declared.root.Root.{Root}
@@ -15,7 +15,7 @@ use Rattle.redo_journal.proofs.CommitLemmas.{commits, first_moments, second_mome
 use Rattle.redo_journal.proofs.DoubtLemmas.{doubt_moved}
 use Rattle.redo_journal.proofs.FormLemmas.{cell_behind}
 use Rattle.redo_journal.proofs.Moments.{on_err, widened}
-use Rattle.redo_journal.proofs.RotateLemmas.{IsFree, Laid, as_rooted, both_kept, free_place, laid, laid_doubt, names_other, other, own_number, places, rooted}
+use Rattle.redo_journal.proofs.RotateLemmas.{IsFree, Laid, as_rooted, both_kept, free_place, laid, laid_doubt, names_other, other, own_number, rooted}
 use Rattle.redo_journal.proofs.SegmentLemmas.{length-segment, turned}
 use Rattle.redo_journal.proofs.journal.Journal.turn.Goals as goal
 

@@ -2,7 +2,7 @@ use Rattle.std.proofs.Common.{◌≡◌, inl, inr, ℕ, ◌+◌, ◌<◌, ◌≤
 use Rattle.std.specs.Prelude.{Some, None, Ok}
 use Rattle.std.proofs.lemmas.Result.{IfOk-from_err}
 use Rattle.hs_disk.specs.Disk.{calls_after, written}
-use Rattle.redo_journal.specs.Gates.{Is, Syncs, Throughout, TornFrom}
+use Rattle.redo_journal.specs.Gates.{Syncs, Throughout, TornFrom}
 use Rattle.redo_journal.specs.Image.{Contents, area_alone}
 use Rattle.redo_journal.specs.Inside.{standing}
 use Rattle.redo_journal.specs.Journal.{Standing, IsOf, InDoubt, StandsOn}
