@@ -1,5 +1,5 @@
 -- What contracts see of a link in memory.
-use Rattle.std.specs.Prelude.{ℕ, Bool, false, List, [], min, Option, Some, None}
+use Rattle.std.specs.Prelude.{ℕ, Bool, false, List, [], min, Option, Some, None, if◌then◌else◌}
 use Rattle.hs_outside.specs.Links.{Peer}
 
 -- A link in memory: all that a link may tell, and whether the next call is to fail and whether
@@ -31,7 +31,7 @@ fresh_link = record {
   is_short = false;
 }
 
--- A link in memory tells all.
+-- A link in memory tells all, and whether its next call fails as long as memory wasn't refused.
 abbrev pub known_link : LinkInMemory → Peer
 known_link l = record {
   received = Some l.received;
@@ -39,6 +39,7 @@ known_link l = record {
   left = Some l.left;
   peer_ended = Some l.peer_ended;
   room = Some l.room;
+  fails_next = if l.is_short then None else Some l.fails_next;
   is_ended = l.is_ended;
   idle = l.idle;
   faults = l.faults;

@@ -29,4 +29,4 @@ pub returns-in-End-clause-pulled : goal.returns-in-End-clause-pulled
 returns-in-End-clause-pulled c =
     let link = c.args.entry.now.link in
     pulled-over c.args.table.now c.end.new.self c.args.entry.now c.recv.new.self c.room-room.result c.requires.held c.room-room.ensures c.if-room-eq0.false c.end.ensures
-    c.in-End.ensures.gives (end-goes link.fails_next link.is_short c.in-End.ensures.fails) c.in-End.ensures.next
+    (c.in-End.ensures.gives.1, c.in-End.ensures.gives.2) (end-goes link.fails_next link.is_short c.in-End.ensures.fails) c.in-End.ensures.next
