@@ -7,7 +7,7 @@ use Rattle.request_types.specs.declared.connections.ConnId.{ConnId}
 use Rattle.line_pipeline.specs.declared.conns.Conn.{Conn}
 use Rattle.line_pipeline.specs.declared.slots.Slot.{Slot}
 use Rattle.request_types.specs.Ids.{same_id}
-use Rattle.line_pipeline.specs.Table.{without, Joins}
+use Rattle.line_pipeline.specs.Table.{without, IsFree, Joins}
 use Rattle.line_pipeline.specs.Gathered.{AreFound}
 use Rattle.line_pipeline.specs.Slots.{conns_from}
 use Rattle.request_types.proofs.Ids.{same_id-refl, id_of_parts}
@@ -80,6 +80,21 @@ joins-from n zero old new id slot number generation free there others =
 joins-from n (suc k) old new id slot number generation free there others =
     joins_behind n old new id slot.conn (others 0 (λ is. omega (arith, is)))
     (joins-from (n + 1) k (drop 1 old) (drop 1 new) id slot (omega arith) generation (rest-at old k ∙ free) (rest-at new k ∙ there) (λ j other. rest-at new j ∙ others (suc j) (λ is. other (omega (arith, is))) ∙ sym (rest-at old j)))
+
+-- no connection has the number of a place that isn't taken
+free-behind : (number n : ℕ) (slots : List (Option Slot)) → number < n → IsFree number (conns_from n slots)
+free-behind number n [] below = tt
+free-behind number n (None ∷ slots) below = free-behind number (n + 1) slots (omega arith)
+free-behind number n (Some slot ∷ slots) below =
+    (λ same. omega (arith, same), free-behind number (n + 1) slots (omega arith))
+
+pub free-from : (number n k : ℕ) (slots : List (Option Slot)) → number ≡ n + k → get_or slots k None ≡ None → IsFree number (conns_from n slots)
+free-from number n k [] is free = tt
+free-from number n zero (None ∷ slots) is free = free-behind number (n + 1) slots (omega arith)
+free-from number n zero (Some slot ∷ slots) is free = absurd (none_is_some (sym free))
+free-from number n (suc k) (None ∷ slots) is free = free-from number (n + 1) k slots (omega arith) free
+free-from number n (suc k) (Some slot ∷ slots) is free =
+    (λ same. omega (arith, same), free-from number (n + 1) k slots (omega arith) free)
 
 -- a connection goes
 without-before : (n : ℕ) (slots : List (Option Slot)) (id : ConnId) → id.number < n → without id (conns_from n slots) ≡ conns_from n slots

@@ -73,15 +73,17 @@ batch_of-changed schema f id (first ∷ ids) cs none =
     rw (conn_at-changed f id first cs (same_id-other id first apart.0), batch_of-changed schema f id ids cs apart.1) refl
 
 -- the rest of a table stays
-abbrev pub table_of : Schema → Secrets → ℕ → List (ConnId × Conn) → Table
-table_of schema secrets added conns = record { schema = schema; secrets = secrets; added = added; conns = conns }
+abbrev pub table_of : Schema → Secrets → ℕ → ℕ → List (ConnId × Conn) → Table
+table_of schema secrets added places conns =
+    record { schema = schema; secrets = secrets; added = added; places = places; conns = conns }
 
-of_fields : (a b : Table) → a.schema ≡ b.schema → a.secrets ≡ b.secrets → a.added ≡ b.added → a.conns ≡ b.conns → a ≡ b
-of_fields a b e f g h =
-    ap (λ (x : Schema). table_of x a.secrets a.added a.conns) e
-    ∙ ap (λ (x : Secrets). table_of b.schema x a.added a.conns) f
-    ∙ ap (λ (x : ℕ). table_of b.schema b.secrets x a.conns) g
-    ∙ ap (table_of b.schema b.secrets b.added) h
+of_fields : (a b : Table) → a.schema ≡ b.schema → a.secrets ≡ b.secrets → a.added ≡ b.added → a.places ≡ b.places → a.conns ≡ b.conns → a ≡ b
+of_fields a b e f g p h =
+    ap (λ (x : Schema). table_of x a.secrets a.added a.places a.conns) e
+    ∙ ap (λ (x : Secrets). table_of b.schema x a.added a.places a.conns) f
+    ∙ ap (λ (x : ℕ). table_of b.schema b.secrets x a.places a.conns) g
+    ∙ ap (λ (x : ℕ). table_of b.schema b.secrets b.added x a.conns) p
+    ∙ ap (table_of b.schema b.secrets b.added b.places) h
 
 pub kept : (first now new : Table) (cs : List (ConnId × Conn)) → now ≡ record first { conns = now.conns } → new ≡ record now { conns = cs } → new ≡ record first { conns = new.conns }
 kept first now new cs before after =
@@ -89,22 +91,23 @@ kept first now new cs before after =
     (ap (λ (t : Table). t.schema) after ∙ ap (λ (t : Table). t.schema) before)
     (ap (λ (t : Table). t.secrets) after ∙ ap (λ (t : Table). t.secrets) before)
     (ap (λ (t : Table). t.added) after ∙ ap (λ (t : Table). t.added) before)
+    (ap (λ (t : Table). t.places) after ∙ ap (λ (t : Table). t.places) before)
     refl
 
 -- the last step
 pub ends : (first now : Table) (f : Conn → Conn) (rest : List ConnId) (all : List (ConnId × Conn)) → now ≡ record first { conns = now.conns } → rest ≡ [] → all_changed rest f now.conns ≡ all → now ≡ record first { conns = all }
 ends first now f rest all same none is =
-    same ∙ ap (table_of first.schema first.secrets first.added) (sym (all_changed-none f now.conns) ∙ ap (λ (r : List ConnId). all_changed r f now.conns) (sym none) ∙ is)
+    same ∙ ap (table_of first.schema first.secrets first.added first.places) (sym (all_changed-none f now.conns) ∙ ap (λ (r : List ConnId). all_changed r f now.conns) (sym none) ∙ is)
 
 -- a table of which connections alone changed
 pub kept_is : (first now : Table) (all : List (ConnId × Conn)) → now ≡ record first { conns = now.conns } → now.conns ≡ all → now ≡ record first { conns = all }
-kept_is first now all same is = same ∙ ap (table_of first.schema first.secrets first.added) is
+kept_is first now all same is = same ∙ ap (table_of first.schema first.secrets first.added first.places) is
 
 -- two steps, of which the first changes connections alone
 pub kept_as : (first now new : Table) (cs all : List (ConnId × Conn)) → now ≡ record first { conns = now.conns } → new ≡ record now { conns = cs } → cs ≡ all → new ≡ record first { conns = all }
 kept_as first now new cs all before after is =
     kept first now new cs before after
-    ∙ ap (table_of first.schema first.secrets first.added) (ap (λ (t : Table). t.conns) after ∙ is)
+    ∙ ap (table_of first.schema first.secrets first.added first.places) (ap (λ (t : Table). t.conns) after ∙ is)
 
 -- one step
 step_on : (now new : Table) (f : Conn → Conn) (id : ConnId) (rest more : List ConnId) (all : List (ConnId × Conn)) → ((conn : Conn) → is_listed more id ≡ true → f (f conn) ≡ f conn) → rest ≡ id ∷ more → all_changed rest f now.conns ≡ all → new ≡ record now { conns = changed id f now.conns } → all_changed more f new.conns ≡ all

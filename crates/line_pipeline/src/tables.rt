@@ -4,7 +4,7 @@ ghost use Rattle.row_types.specs.Valid.{IsValid};
 ghost use Rattle.line_pipeline.specs.Output.{IsFront};
 ghost use Rattle.line_pipeline.specs.Conn.{state_of, room_of, unsent_of, fed, ended, sent_off, closed, finished, secret_of, applied, MayChange};
 ghost use Rattle.line_pipeline.specs.Live.{fresh};
-ghost use Rattle.line_pipeline.specs.Table.{is_held, conn_at, changed, all_changed, without, Joins};
+ghost use Rattle.line_pipeline.specs.Table.{is_held, conn_at, changed, all_changed, without, IsFree, Joins};
 ghost use Rattle.line_pipeline.specs.declared.conns.Conn.TheVariants as conns;
 ghost use Rattle.line_pipeline.specs.declared.reasons.Reason.TheVariants as reasons;
 ghost use Rattle.line_pipeline.specs.declared.reasons.AddFault.TheVariants as faults;
@@ -44,6 +44,7 @@ impl Model for ConnTable {
       schema = t.schema;
       secrets = t.secrets;
       added = t.added;
+      places = t.slots.capacity;
       conns = conns_from 0 t.slots.slots;
     } };
 
@@ -59,6 +60,7 @@ pub fn conns_new(alloc: Global, schema: Schema, secrets: Secrets) -> Result<Conn
       schema = schema;
       secrets = secrets;
       added = 0;
+      places = table.places;
       conns = [];
     }) }
 {
@@ -100,6 +102,8 @@ impl ConnTable {
         ensures joins { IfOk result (λ id. Joins self.old.conns self.new.conns id
             (conns.Live (fresh (secret_of self.old.secrets port) port))) }
         ensures unheld { IfOk result (λ id. is_held self.old.conns id ≡ false) }
+        ensures number { IfOk result (λ id. id.number < self.old.places) }
+        ensures free { IfOk result (λ id. IsFree id.number self.old.conns) }
         ensures generation { IfOk result (λ id. id.generation ≡ self.old.added) }
         ensures counted { OnOk result (self.new.added ≡ self.old.added + 1) }
         ensures rest { self.new ≡ record self.old { added = self.new.added; conns = self.new.conns } }
@@ -121,6 +125,13 @@ impl ConnTable {
         let number = self.slots.insert_reserved(Slot { generation, conn }) as u32;
         self.added += 1;
         Ok(ConnId { number, generation })
+    }
+
+    /// All numbers of connections are below this.
+    pub fn places(&self) -> usize
+        ensures { result ≡ self.now.places }
+    {
+        self.slots.capacity()
     }
 
     /// Whether a connection of this id is held.

@@ -13,9 +13,9 @@ use Rattle.line_pipeline.specs.Fitting.{ConnFits}
 use Rattle.line_pipeline.proofs.Fitting.{joined_fit}
 use Rattle.std.proofs.lemmas.List.Elements.{All-nil}
 use Rattle.line_pipeline.specs.Slots.{conns_from}
-use Rattle.line_pipeline.specs.Table.{Table, conn_at, Joins}
+use Rattle.line_pipeline.specs.Table.{Table, conn_at, IsFree, Joins}
 use Rattle.line_pipeline.proofs.SlotLemmas.{zero_more, at_missing}
-use Rattle.line_pipeline.proofs.AddLemmas.{joins-from, length-conns_from}
+use Rattle.line_pipeline.proofs.AddLemmas.{joins-from, free-from, length-conns_from}
 use Rattle.line_pipeline.proofs.tables.ConnTable.add.Goals as goal
 
 -- as many are held as places are taken
@@ -74,6 +74,18 @@ returns-clause-joins c =
     joins-from 0 id.number o.slots.slots new id slot (sym (zero_more id.number)) refl c.insert_reserved-number.ensures.was_vacant u.changed u.others in
     subst (λ (t : Table). Joins t.conns (conns_from 0 new) id (conns.Live (fresh (secret_of c.args.self.now.secrets c.args.port) c.args.port))) c.self.view_is
     (subst (λ (conn : Conn). Joins (conns_from 0 o.slots.slots) (conns_from 0 new) id conn) conn_is joins)
+
+pub returns-clause-number : goal.returns-clause-number
+returns-clause-number c =
+    let key = c.insert_reserved-number.ensures.key_in_range in
+    let capacity = c.insert_reserved-number.ensures.capacity in
+    omega (arith, key, capacity, ap (λ (t : Table). t.places) c.self.view_is)
+
+pub returns-clause-free : goal.returns-clause-free
+returns-clause-free c =
+    let number = c.insert_reserved-number.result in
+    subst (λ (t : Table). IsFree number t.conns) c.self.view_is
+    (free-from number 0 number c.self.inside.slots.slots (sym (zero_more number)) c.insert_reserved-number.ensures.was_vacant)
 
 pub returns-clause-unheld : goal.returns-clause-unheld
 returns-clause-unheld c =

@@ -20,21 +20,21 @@ pub returns-in_default : goal.returns-in_default
 returns-in_default c =
     let o = c.self.inside in
     rw (← c.self.view_is)
-    (ap (λ (cs : List (ConnId × Conn)). record { schema = o.schema; secrets = o.secrets; added = o.added; conns = cs })
+    (ap (λ (cs : List (ConnId × Conn)). record { schema = o.schema; secrets = o.secrets; added = o.added; places = o.slots.capacity; conns = cs })
     (changed_missing o.slots.slots c.args.id (applied c.args.change) (sym c.in_default.ensures.value)))
 
 pub returns-then-slot-id : goal.returns-then-slot-id
 returns-then-slot-id c =
     let o = c.self.inside in
     rw (← c.self.view_is)
-    (ap (λ (cs : List (ConnId × Conn)). record { schema = o.schema; secrets = o.secrets; added = o.added; conns = cs })
+    (ap (λ (cs : List (ConnId × Conn)). record { schema = o.schema; secrets = o.secrets; added = o.added; places = o.slots.capacity; conns = cs })
     (changed_stale o.slots.slots c.args.id (applied c.args.change) c.in-Some.slot.now (sym c.in-Some.ensures.value) c.if-slot-id.true))
 
 pub returns : goal.returns
 returns c =
     let o = c.self.inside in
     rw (← c.self.view_is)
-    (ap (λ (cs : List (ConnId × Conn)). record { schema = o.schema; secrets = o.secrets; added = o.added; conns = cs })
+    (ap (λ (cs : List (ConnId × Conn)). record { schema = o.schema; secrets = o.secrets; added = o.added; places = o.slots.capacity; conns = cs })
     (changed_found o.slots.slots c.args.id (applied c.args.change) c.in-Some.slot.now c.apply.new.self (sym c.in-Some.ensures.value) c.if-slot-id.false c.apply.ensures))
 
 pub invariant_of-self-2 : goal.invariant_of-self-2

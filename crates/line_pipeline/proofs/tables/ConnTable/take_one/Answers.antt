@@ -24,7 +24,7 @@ pub returns-in_default-clause-took : goal.returns-in_default-clause-took
 returns-in_default-clause-took c =
     let o = c.self.inside in
     rw (← c.self.view_is)
-    (ap (λ (cs : List (ConnId × Conn)). record { schema = o.schema; secrets = o.secrets; added = o.added; conns = cs })
+    (ap (λ (cs : List (ConnId × Conn)). record { schema = o.schema; secrets = o.secrets; added = o.added; places = o.slots.capacity; conns = cs })
     (changed_missing o.slots.slots c.args.id (took o.schema) (sym c.in_default.ensures.value)))
 
 pub returns-then-slot-id-clause-items : goal.returns-then-slot-id-clause-items
@@ -38,7 +38,7 @@ pub returns-then-slot-id-clause-took : goal.returns-then-slot-id-clause-took
 returns-then-slot-id-clause-took c =
     let o = c.self.inside in
     rw (← c.self.view_is)
-    (ap (λ (cs : List (ConnId × Conn)). record { schema = o.schema; secrets = o.secrets; added = o.added; conns = cs })
+    (ap (λ (cs : List (ConnId × Conn)). record { schema = o.schema; secrets = o.secrets; added = o.added; places = o.slots.capacity; conns = cs })
     (changed_stale o.slots.slots c.args.id (took o.schema) c.in-Some.slot.now (sym c.in-Some.ensures.value) c.if-slot-id.true))
 
 pub returns-clause-items : goal.returns-clause-items
@@ -56,7 +56,7 @@ returns-clause-took c =
     (λ is.
     let o = c.self.inside in
     rw (← c.self.view_is)
-    (ap (λ (cs : List (ConnId × Conn)). record { schema = o.schema; secrets = o.secrets; added = o.added; conns = cs })
+    (ap (λ (cs : List (ConnId × Conn)). record { schema = o.schema; secrets = o.secrets; added = o.added; places = o.slots.capacity; conns = cs })
     (changed_found o.slots.slots c.args.id (took o.schema) c.in-Some.slot.now c.take.new.self (sym c.in-Some.ensures.value) c.if-slot-id.false is)))
     c.take.ensures.took
 
