@@ -1,0 +1,13 @@
+pub mod Lists
+pub mod Lookups
+pub mod Rooms
+pub mod Hearing
+pub mod Sent
+pub mod Placed
+pub mod TellsReceived
+pub mod TellsSent
+pub mod Before
+pub mod Served
+pub mod Joined
+pub mod Gathered
+pub mod Kept

@@ -1,0 +1,7 @@
+use Rattle.std.proofs.Common.{take}
+use Rattle.batch_worker.specs.Linked.{Each}
+use Rattle.batch_worker.specs.Sending.{Passes}
+use Rattle.batch_worker.proofs.links.Links.pass_each.Given as goal
+
+abbrev pub invariant-loop-id : goal.invariant-loop-id
+invariant-loop-id g l = Each g.L.Link.peer Passes (take l.id-index l.ready) l.fn.self l.self
