@@ -1,0 +1,11 @@
+pub mod Digits
+pub mod Folds
+pub mod Groups
+pub mod Hex
+pub mod Turns
+pub mod Cases
+pub mod Places
+pub mod Words
+pub mod Yields
+pub mod SomeParts
+pub mod ReadFits

@@ -1,0 +1,33 @@
+use Rattle.std.proofs.Common.{rules, arith}
+use Rattle.std.proofs.lemmas.Grind.{common_steps}
+use Rattle.sql_parse.specs.Grammar.{expr, members, members_from}
+use Rattle.sql_parse.proofs.Turns.{one_more, no_more}
+use Rattle.sql_parse.proofs.grammar.Grammar.members.Goals as goal
+
+pub loop-turn-init : goal.loop-turn-init
+unfolding members
+loop-turn-init g c = first_of (search rules, grind (arith, common_steps))
+
+pub returns-in_err-expr : goal.returns-in_err-expr
+unfolding members_from
+returns-in_err-expr g c =
+    let e = one_more (λ n. members_from c.args.self.now.columns.now (expr c.args.self.now.columns.now c.args.self.now.nest) n c.loop-turn.found c.loop-turn.deepest c.loop-turn.tokens) _ c.loop-turn._turn c.loop-turn-test.true c.loop-turn.invariant in
+    first_of (search rules, grind (arith, common_steps))
+
+pub returns-then-not-eat : goal.returns-then-not-eat
+unfolding members_from
+returns-then-not-eat g c =
+    let e = one_more (λ n. members_from c.args.self.now.columns.now (expr c.args.self.now.columns.now c.args.self.now.nest) n c.loop-turn.found c.loop-turn.deepest c.loop-turn.tokens) _ c.loop-turn._turn c.loop-turn-test.true c.loop-turn.invariant in
+    first_of (search rules, grind (arith, common_steps))
+
+pub loop-turn-preserved : goal.loop-turn-preserved
+unfolding members_from
+loop-turn-preserved g c =
+    let e = one_more (λ n. members_from c.args.self.now.columns.now (expr c.args.self.now.columns.now c.args.self.now.nest) n c.loop-turn.found c.loop-turn.deepest c.loop-turn.tokens) _ c.loop-turn._turn c.loop-turn-test.true c.loop-turn.invariant in
+    first_of (search rules, grind (arith, common_steps))
+
+pub returns : goal.returns
+unfolding members_from
+returns g c =
+    let e = no_more (λ n. members_from c.args.self.now.columns.now (expr c.args.self.now.columns.now c.args.self.now.nest) n c.loop-turn.found c.loop-turn.deepest c.loop-turn.tokens) _ c.loop-turn._turn c.loop-turn-test.false c.loop-turn.invariant in
+    first_of (search rules, grind (arith, common_steps))

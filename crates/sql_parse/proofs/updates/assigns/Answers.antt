@@ -1,0 +1,30 @@
+use Rattle.std.proofs.Common.{rules, arith}
+use Rattle.std.proofs.lemmas.Grind.{common_steps}
+use Rattle.sql_parse.specs.Input.{separated_from}
+use Rattle.sql_parse.specs.Statements.{assign}
+use Rattle.sql_parse.proofs.Turns.{one_more, no_more}
+use Rattle.sql_parse.proofs.updates.assigns.Goals as goal
+
+pub returns-in_err-made : goal.returns-in_err-made
+unfolding separated_from
+returns-in_err-made c =
+    let e = one_more (λ n. separated_from (assign c.args.reading.now.columns.now) n c.loop-turn.found c.loop-turn.tokens) _ c.loop-turn._turn c.loop-turn-test.true c.loop-turn.invariant in
+    first_of (search rules, grind (arith, common_steps))
+
+pub returns-then-not-eat : goal.returns-then-not-eat
+unfolding separated_from
+returns-then-not-eat c =
+    let e = one_more (λ n. separated_from (assign c.args.reading.now.columns.now) n c.loop-turn.found c.loop-turn.tokens) _ c.loop-turn._turn c.loop-turn-test.true c.loop-turn.invariant in
+    first_of (search rules, grind (arith, common_steps))
+
+pub loop-turn-preserved : goal.loop-turn-preserved
+unfolding separated_from
+loop-turn-preserved c =
+    let e = one_more (λ n. separated_from (assign c.args.reading.now.columns.now) n c.loop-turn.found c.loop-turn.tokens) _ c.loop-turn._turn c.loop-turn-test.true c.loop-turn.invariant in
+    first_of (search rules, grind (arith, common_steps))
+
+pub returns : goal.returns
+unfolding separated_from
+returns c =
+    let e = no_more (λ n. separated_from (assign c.args.reading.now.columns.now) n c.loop-turn.found c.loop-turn.tokens) _ c.loop-turn._turn c.loop-turn-test.false c.loop-turn.invariant in
+    first_of (search rules, grind (arith, common_steps))

@@ -1,0 +1,14 @@
+pub mod Lex
+pub mod Strings
+pub mod Numbers
+pub mod Cursor
+pub mod Input
+pub mod Names
+pub mod Trees
+pub mod Grammar
+pub mod Nests
+pub mod Statements
+pub mod Standing
+pub mod Fitting
+pub mod Reading
+pub mod Examples
