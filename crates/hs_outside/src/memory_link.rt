@@ -103,6 +103,13 @@ impl MemLink {
         self.fails_next = true;
     }
 
+    /// Whether the peer has ended.
+    pub fn peer_ended(&self) -> bool
+        ensures { result ≡ self.now.peer_ended }
+    {
+        self.peer_ended
+    }
+
     /// Whether memory was refused when it had to grow. From then on each call fails.
     pub fn short(&self) -> bool
         ensures { result ≡ self.now.is_short }
