@@ -1,5 +1,5 @@
 -- What was told before a turn, by what is told after it.
-use Rattle.std.proofs.Common.{◌≡◌, Bool, false, Option, refl, ap, subst, ◌∙◌, ⊎_elim, is_some}
+use Rattle.std.proofs.Common.{◌≡◌, Bool, false, Option, refl, ap, subst, ⊎_elim, is_some}
 use Rattle.std.specs.Prelude.{IsSome}
 use Rattle.std.proofs.lemmas.Bool.{both_ways}
 use Rattle.hs_outside.specs.Links.{Peer, Broke}
@@ -58,35 +58,3 @@ sends-before k m told s =
 pub passes-before : (k m : Linked) → IsSome m.peer.fails_next → Passes k m → IsSome k.peer.fails_next
 passes-before k m told p =
     sends-before k p.after (subst (λ (x : Linked). IsSome x.peer.fails_next) p.is told) p.sends
-
--- ---- whether the peer has ended stays
-
-pub receives-ended : (k m : Linked) → Receives k m → m.peer.peer_ended ≡ k.peer.peer_ended
-receives-ended k m r =
-    ⊎_elim
-    (λ full. ap (λ (x : Linked). x.peer.peer_ended) full.1)
-    (λ on.
-    ⊎_elim
-    (λ fails. ap (λ (p : Peer). p.peer_ended) fails.link.2)
-    (λ goes.
-    ⊎_elim
-    (λ nothing. ap (λ (p : Peer). p.peer_ended) nothing.link.1)
-    (λ end. ap (λ (p : Peer). p.peer_ended) end.link)
-    goes)
-    on.1)
-    r.stops
-    ∙ ap (λ (p : Peer). p.peer_ended) r.hears.gave.rest
-
-pub passes-ended : (k m : Linked) → Passes k m → m.peer.peer_ended ≡ k.peer.peer_ended
-passes-ended k m p =
-    let s = p.sends in
-    ap (λ (x : Linked). x.peer.peer_ended) p.is
-    ∙ ⊎_elim
-    (λ none. ap (λ (x : Linked). x.peer.peer_ended) none.1)
-    (λ some.
-    ⊎_elim
-    (λ fails. ap (λ (p : Peer). p.peer_ended) fails.link.2)
-    (λ held. ap (λ (p : Peer). p.peer_ended) held.link.1)
-    some.1)
-    s.stops
-    ∙ ap (λ (p : Peer). p.peer_ended) s.is_sent.took.rest

@@ -1,10 +1,11 @@
 -- Which connections are held after a batch was made, and after it was settled.
-use Rattle.std.proofs.Common.{◌≡◌, Bool, true, false, List, [], ◌∷◌, Option, Some, option_map, is_some, refl, ap, subst, ◌∙◌, ⊎_elim}
+use Rattle.std.proofs.Common.{◌≡◌, Bool, true, false, List, [], ◌∷◌, Option, Some, None, option_map, is_some, refl, ap, subst, ◌∙◌, ⊎_elim}
 use Rattle.std.specs.Prelude.{if◌then◌else◌}
 use Rattle.std.proofs.lemmas.Bool.{cases_Bool}
 use Rattle.request_types.specs.declared.connections.ConnId.{ConnId}
 use Rattle.request_types.specs.declared.batches.Batch.{Batch}
 use Rattle.request_types.specs.declared.batches.Part.{Part}
+use Rattle.request_types.specs.declared.batches.Replies.{Replies}
 use Rattle.request_types.specs.Ids.{same_id, is_listed}
 use Rattle.request_types.proofs.Ids.{same_id-is}
 use Rattle.line_pipeline.specs.declared.outcomes.Outcome.{Outcome}
@@ -54,3 +55,19 @@ pub settled-held : (cs : List (ConnId × Conn)) (batch : Batch) (outcome : Outco
 settled-held cs batch (outcomes.Done replies) x = all-held place_used (asked_by batch) (all_told replies.parts cs) x ∙ told-held replies.parts cs x
 settled-held cs batch outcomes.DiskFault x = all-held (closed reasons.BatchDisk) (asked_by batch) cs x
 settled-held cs batch outcomes.NoMemory x = all-held (closed reasons.BatchMemory) (asked_by batch) cs x
+
+-- ---- what settling makes of one
+
+-- a batch that was done makes this of the connection of an id
+abbrev pub done_conn : Batch → List Part → ConnId → Conn → Conn
+done_conn batch parts x conn = where_listed (asked_by batch) place_used x (told parts (x, conn))
+
+pub two_maps : (f g : Conn → Conn) (o : Option Conn) → option_map f (option_map g o) ≡ option_map (λ (conn : Conn). f (g conn)) o
+two_maps f g None = refl
+two_maps f g (Some conn) = refl
+
+pub settled_at : (cs : List (ConnId × Conn)) (batch : Batch) (replies : Replies) (x : ConnId) → conn_at (settled cs batch (outcomes.Done replies)) x ≡ option_map (done_conn batch replies.parts x) (conn_at cs x)
+settled_at cs batch replies x =
+    conn_at-all place_used (asked_by batch) (all_told replies.parts cs) x
+    ∙ ap (option_map (where_listed (asked_by batch) place_used x)) (conn_at-told replies.parts cs x)
+    ∙ two_maps (where_listed (asked_by batch) place_used x) (λ (conn : Conn). told replies.parts (x, conn)) (conn_at cs x)

@@ -11,3 +11,4 @@ pub mod Served
 pub mod Joined
 pub mod Gathered
 pub mod Kept
+pub mod Turned

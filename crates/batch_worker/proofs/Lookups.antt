@@ -26,7 +26,7 @@ pub held-map : (f : Conn → Conn) (o : Option Conn) → is_some (option_map f o
 held-map f None = refl
 held-map f (Some conn) = refl
 
-or_none-map : (f : Conn → Conn) (o : Option Conn) → is_some o ≡ true → conn_or_none (option_map f o) ≡ f (conn_or_none o)
+pub or_none-map : (f : Conn → Conn) (o : Option Conn) → is_some o ≡ true → conn_or_none (option_map f o) ≡ f (conn_or_none o)
 or_none-map f None is = cc
 or_none-map f (Some conn) is = refl
 

@@ -17,16 +17,16 @@ use Rattle.line_pipeline.specs.Conn.{unsent_of, fed, ended, closed, sent_off, fi
 use Rattle.batch_worker.specs.Linked.{Linked}
 use Rattle.batch_worker.specs.Receiving.{Receives}
 use Rattle.batch_worker.specs.Sending.{Passes}
-use Rattle.batch_worker.specs.Owed.{IsServed, IsAnswered, IsOwed, AreAnswered}
+use Rattle.batch_worker.specs.Owed.{IsServed, IsAnswered, IsOwed, AreAnswered, AreSentAlike}
 use Rattle.batch_worker.proofs.Hearing.{append-none, append-two}
 
 -- ---- one connection
 
-unsent-fed : (bytes : List ℕ) (conn : Conn) → unsent_of (fed bytes conn) ≡ unsent_of conn
+pub unsent-fed : (bytes : List ℕ) (conn : Conn) → unsent_of (fed bytes conn) ≡ unsent_of conn
 unsent-fed bytes (conns.Live l) = refl
 unsent-fed bytes (conns.Closed reason) = refl
 
-unsent-ended : (conn : Conn) → unsent_of (ended conn) ≡ unsent_of conn
+pub unsent-ended : (conn : Conn) → unsent_of (ended conn) ≡ unsent_of conn
 unsent-ended (conns.Live l) = refl
 unsent-ended (conns.Closed reason) = refl
 
@@ -44,7 +44,7 @@ finished-by l false few =
     by None is nothing = rw is refl
     by (Some reason) is nothing = rw is (sym nothing)
 
-unsent-finished : (conn : Conn) → unsent_of (finished conn) ≡ unsent_of conn
+pub unsent-finished : (conn : Conn) → unsent_of (finished conn) ≡ unsent_of conn
 unsent-finished (conns.Live l) = finished-by l (nat_lt 0 (length l.unsent)) refl
 unsent-finished (conns.Closed reason) = refl
 
@@ -169,6 +169,18 @@ pub owed-turns : (old new : Linked) (texts : List (List ℕ)) → AreAnswered ol
 owed-turns old new [] same = subst (λ (x : Linked). IsOwed old x []) (sym same) (owed-none old)
 owed-turns old new (text ∷ texts) turns =
     owed-two old turns.0 new text (concat texts) (owed-turn old turns.0 text turns.1 turns.2) (owed-turns turns.0 new texts turns.3)
+
+pub sent-alike : (old new other_old other_new : Linked) (texts : List (List ℕ)) → unsent_of old.conn ≡ unsent_of other_old.conn → AreAnswered old new texts → AreAnswered other_old other_new texts → AreSentAlike old new other_old other_new
+sent-alike old new other_old other_new texts same first second =
+    let owed = owed-turns old new texts first in
+    let other = owed-turns other_old other_new texts second in
+    record {
+      sent = owed.sent;
+      grew = owed.grew;
+      other_sent = other.sent;
+      other_grew = other.grew;
+      alike = sym owed.together ∙ ap (λ (u : List ℕ). u ++ concat texts) same ∙ other.together;
+    }
 
 -- ---- closed for its link
 

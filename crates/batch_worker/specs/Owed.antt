@@ -1,6 +1,9 @@
 -- What a connection is owed, over its turns.
-use Rattle.std.specs.Prelude.{◌≡◌, ℕ, ⊤, List, [], ◌∷◌, ◌++◌}
+use Rattle.std.specs.Prelude.{◌≡◌, ℕ, ⊤, List, [], ◌∷◌, ◌++◌, if◌then◌else◌}
 use Rattle.std.specs.Io.KnownBytes.{append_known}
+use Rattle.request_types.specs.declared.connections.ConnId.{ConnId}
+use Rattle.request_types.specs.declared.batches.Part.{Part}
+use Rattle.request_types.specs.Ids.{same_id}
 use Rattle.line_pipeline.specs.declared.conns.Conn.{Conn}
 use Rattle.line_pipeline.specs.declared.conns.Conn.TheVariants as conns
 use Rattle.line_pipeline.specs.declared.reasons.Reason.{Reason}
@@ -39,3 +42,16 @@ abbrev pub AreAnswered : Linked → Linked → List (List ℕ) → Type 0
 AreAnswered old new [] = new ≡ old
 AreAnswered old new (text ∷ texts) =
     (mid : Linked) × IsAnswered old mid text × IsServed mid.conn × AreAnswered mid new texts
+
+-- Two connections, each from one moment to another: what was sent and what is queued then are together the same for both.
+pub record AreSentAlike (old new other_old other_new : Linked) : Type 0 where
+  pub sent : List ℕ
+  pub grew : new.peer.sent ≡ append_known old.peer.sent sent
+  pub other_sent : List ℕ
+  pub other_grew : other_new.peer.sent ≡ append_known other_old.peer.sent other_sent
+  pub alike : sent ++ unsent_of new.conn ≡ other_sent ++ unsent_of other_new.conn
+
+-- The text that parts have for a connection. None, where no part is its own.
+abbrev pub text_for : List Part → ConnId → List ℕ
+text_for [] id = []
+text_for (part ∷ parts) id = if same_id id part.conn then part.text else text_for parts id

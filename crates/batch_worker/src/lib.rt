@@ -2,10 +2,11 @@
 //!
 //!     link → receive → lines → one batch → (run it) → its outcome → replies → send → link
 //!
-//! `Links` holds connections, each beside its link, which is found by the connection's number. A turn is two calls around
-//! the batch: `begin_turn` receives and gathers, `end_turn` hands out what came of the batch and sends. So whoever runs
-//! batches under a lock holds it for the batch alone. Where memory is refused before there is a batch, `end_refused_turn`
-//! sends. A connection is closed for its link only where a call of that link failed; a closed one stays until it is
+//! `Links` holds connections, each beside its link, which is found by the connection's number. A
+//! turn is two calls around the batch: `begin_turn` receives and gathers, `end_turn` hands out what
+//! came of the batch and sends. So whoever runs batches under a lock holds it for the batch alone.
+//! Where memory is refused before there is a batch, `end_refused_turn` sends. A connection is
+//! closed for its link only where a call of that link failed; a closed one stays until it is
 //! removed. Neither half takes memory, but for the batch.
 //!
 //! Running a batch is left to other crates, and waiting for links that are ready too.
@@ -20,7 +21,8 @@ mod tests;
 mod turns;
 
 pub use laws::{
-    a_link_closes_only_by_its_fault, links_that_tell_fix_a_turn,
+    a_link_closes_only_by_its_fault, a_turn_answers_each_connection,
+    how_bytes_are_cut_makes_no_difference, links_that_tell_fix_a_turn,
     nothing_is_lost_and_nothing_sent_twice,
 };
 pub use links::{Links, links_new};

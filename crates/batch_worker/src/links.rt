@@ -79,7 +79,8 @@ impl<L: Link + Drop> Links<L> {
         ensures others { OnOk result
             (KeepsLinks self.old.table.conns self.old.links self.new.links) }
 
-        // Full comes exactly where as many as may be are held, or no generation is left. The link is handed back.
+        // Full comes exactly where as many as may be are held, or no generation is left. The link
+        // is handed back.
         ensures full { (result ≡ Err (link, faults.Full))
             ↔ ((256 ≤ length self.old.table.conns) ⊎ (self.old.table.added ≡ 2 ^ 64 - 1)) }
         ensures err { OnErr result (self.new ≡ self.old) }

@@ -23,7 +23,8 @@ pub fn receive<L: Link>(table: &mut ConnTable, id: ConnId, link: &mut L, buffer:
     }
 }
 
-/// Asks the link once for as many bytes as the connection has room for. Answers whether it gave some.
+/// Asks the link once for as many bytes as the connection has room for. Answers whether it gave
+/// some.
 fn pull<L: Link>(table: &mut ConnTable, id: ConnId, link: &mut L, buffer: &mut [u8]) -> bool
     requires held { is_held table.old.conns id ≡ true }
     requires buffer { length buffer.old ≡ BUFFER_SIZE }

@@ -38,8 +38,8 @@ impl<L: Link> Links<L> {
         self.table.gather(alloc, ready)
     }
 
-    /// Hands out what came of the batch. Then the listed connections are sent what waits for them, and those that have an
-    /// end close.
+    /// Hands out what came of the batch. Then the listed connections are sent what waits for them,
+    /// and those that have an end close.
     pub fn end_turn(&mut self, ready: &[ConnId], batch: &Batch, outcome: Outcome)
         requires once { are_once ready.now ≡ true }
         requires settles { CanSettle self.old.table.conns batch.now (parts_of outcome) }
@@ -81,7 +81,8 @@ impl<L: Link> Links<L> {
         }
     }
 
-    /// Each of these connections is sent what waits for it, and closes where it has an end of its own.
+    /// Each of these connections is sent what waits for it, and closes where it has an end of its
+    /// own.
     fn pass_each(&mut self, ready: &[ConnId])
         requires { are_once ready.now ≡ true }
         ensures { Each L.peer Passes ready.now self.old self.new }
