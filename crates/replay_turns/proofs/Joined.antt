@@ -1,22 +1,24 @@
 -- One more connection.
-use Rattle.std.proofs.Common.{◌≡◌, true, false, List, [], ◌∷◌, ◌++◌, Option, Some, is_some, refl, sym, ap, subst, ◌∙◌, ⊎_elim}
+use Rattle.std.proofs.Common.{◌≡◌, Bool, true, false, ◌||◌, List, [], ◌∷◌, ◌++◌, Option, Some, is_some, refl, sym, ap, ◌∙◌, ⊎_elim}
 use Rattle.std.specs.Prelude.{if◌then◌else◌}
-use Rattle.std.specs.List.{AllByRecursion}
 use Rattle.std.proofs.lemmas.Bool.{cases_Bool, or_parts, both_ways}
 use Rattle.std.proofs.lemmas.List.{map-append}
 use Rattle.request_types.specs.declared.connections.ConnId.{ConnId}
 use Rattle.line_pipeline.specs.declared.conns.Conn.{Conn}
 use Rattle.request_types.specs.Ids.{same_id, is_listed, are_once}
-use Rattle.line_pipeline.specs.Table.{Table, conn_at, is_held, Joins}
+use Rattle.line_pipeline.specs.Table.{conn_at, is_held, Joins}
+use Rattle.batch_worker.proofs.Lists.{listed-behind}
+use Rattle.batch_worker.proofs.Lookups.{or_none}
 use Rattle.request_types.proofs.Ids.{same_id-refl, same_id-is, same_id-other, once-head, once-tail}
 use Rattle.replay_turns.specs.declared.entries.Entry.{Entry}
 use Rattle.replay_turns.specs.Linked.{Linked}
 use Rattle.line_pipeline.specs.Gathered.{conn_or_none}
-use Rattle.replay_turns.specs.Entries.{beside, linked, all_linked, ids_of, IsEntry, AreEntries}
-use Rattle.replay_turns.proofs.Places.{KeepsOthers, all_linked-other, entries-other}
+use Rattle.hs_outside.specs.MemoryLink.{LinkInMemory}
+use Rattle.replay_turns.specs.Entries.{beside, link_of, linked, all_linked, ids_of, AreEntries}
+use Rattle.replay_turns.proofs.Places.{IsSame, held_of, all_linked-other}
 
 module _ (id : ConnId) (conn : Conn) (after : List (ConnId × Conn)) where
-  other_in : (before : List (ConnId × Conn)) → KeepsOthers id (before ++ after) (before ++ (id, conn) ∷ after)
+  other_in : (before : List (ConnId × Conn)) → ((other : ConnId) → same_id other id ≡ false → conn_at (before ++ (id, conn) ∷ after) other ≡ conn_at (before ++ after) other)
   other_in [] other different = let apart : same_id id other ≡ false = same_id-other other id different in rw apart refl
   other_in (c ∷ before) other different = ap (λ (o : Option Conn). if same_id c.0 other then Some c.1 else o) (other_in before other different)
 
@@ -31,22 +33,13 @@ module _ (id : ConnId) (conn : Conn) (after : List (ConnId × Conn)) where
       step ∙ own_in before (sym later ∙ none))
       (cases_Bool (same_id c.0 id))
 
-pub joined-others : (old new : List (ConnId × Conn)) (id : ConnId) (conn : Conn) → Joins old new id conn → KeepsOthers id old new
+pub joined-others : (old new : List (ConnId × Conn)) (id : ConnId) (conn : Conn) → Joins old new id conn → (other : ConnId) → same_id other id ≡ false → conn_at new other ≡ conn_at old other
 joined-others old new id conn joins other different =
     ap (λ (cs : List (ConnId × Conn)). conn_at cs other) joins.is ∙ other_in id conn joins.after joins.before other different ∙ ap (λ (cs : List (ConnId × Conn)). conn_at cs other) (sym joins.was)
 
 pub joined-own : (old new : List (ConnId × Conn)) (id : ConnId) (conn : Conn) → Joins old new id conn → is_held old id ≡ false → conn_at new id ≡ Some conn
 joined-own old new id conn joins none =
     ap (λ (cs : List (ConnId × Conn)). conn_at cs id) joins.is ∙ own_in id conn joins.after joins.before (ap (λ (cs : List (ConnId × Conn)). is_held cs id) (sym joins.was) ∙ none)
-
--- an id that isn't held is that of no entry
-unlisted : (table : Table) (es : List Entry) (id : ConnId) → is_held table.conns id ≡ false → AllByRecursion (IsEntry table) es → is_listed (ids_of es) id ≡ false
-unlisted table [] id none each = refl
-unlisted table (e ∷ es) id none each =
-    ⊎_elim
-    (λ same. absurd (both_ways (is_held table.conns id) none (subst (λ (x : ConnId). is_held table.conns x ≡ true) (sym (same_id-is id e.id same)) each.0.held)))
-    (λ other. rw other (unlisted table es id none each.1))
-    (cases_Bool (same_id id e.id))
 
 listed_end : (es : List Entry) (f : Entry) (id : ConnId) → is_listed (ids_of es) id ≡ false → same_id id f.id ≡ false → is_listed (ids_of (es ++ f ∷ [])) id ≡ false
 listed_end [] f id none different = rw different refl
@@ -61,51 +54,43 @@ once_end (e ∷ es) f none once =
     let apart : is_listed (ids_of (es ++ f ∷ [])) e.id ≡ false = listed_end es f e.id (once-head e.id (ids_of es) once) (same_id-other f.id e.id parts.0) in
     rw apart (once_end es f parts.1 (once-tail e.id (ids_of es) once))
 
-old_end : (es : List Entry) (f : Entry) (id : ConnId) → is_listed (ids_of es) id ≡ true → is_listed (ids_of (es ++ f ∷ [])) id ≡ true
-old_end [] f id listed = absurd (both_ways false refl listed)
-old_end (e ∷ es) f id listed =
-    ⊎_elim
-    (λ same. rw same refl)
-    (λ other. let later : is_listed (ids_of (e ∷ es)) id ≡ is_listed (ids_of es) id = rw other refl in rw other (old_end es f id (sym later ∙ listed)))
-    (cases_Bool (same_id id e.id))
+ids_end : (es : List Entry) (f : Entry) (x : ConnId) → is_listed (ids_of (es ++ f ∷ [])) x ≡ (is_listed (ids_of es) x || same_id x f.id)
+ids_end es f x = ap (λ (ids : List ConnId). is_listed ids x) (map-append (λ (e : Entry). e.id) es (f ∷ [])) ∙ listed-behind (ids_of es) f.id x
 
-own_end : (es : List Entry) (f : Entry) (id : ConnId) → same_id id f.id ≡ true → is_listed (ids_of (es ++ f ∷ [])) id ≡ true
-own_end [] f id same = rw same refl
-own_end (e ∷ es) f id same =
-    ⊎_elim (λ here. rw here refl) (λ other. rw other (own_end es f id same)) (cases_Bool (same_id id e.id))
+or_true : (b : Bool) → (b || true) ≡ true
+or_true true = refl
+or_true false = refl
 
-each_end : (table : Table) (es : List Entry) (f : Entry) → AllByRecursion (IsEntry table) es → IsEntry table f → AllByRecursion (IsEntry table) (es ++ f ∷ [])
-each_end table [] f each is = (is, tt)
-each_end table (e ∷ es) f each is = (each.0, each_end table es f each.1 is)
+module _ (old new : List (ConnId × Conn)) (links links2 : List (Option LinkInMemory)) (f : Entry) (conn : Conn) (link : LinkInMemory) (joins : Joins old new f.id conn) (none : is_held old f.id ≡ false) (there : link_of links2 f.id ≡ link) (kept : (id : ConnId) → is_held old id ≡ true → link_of links2 id ≡ link_of links id) (es : List Entry) (are : AreEntries old es) where
+  others : (id : ConnId) → same_id id f.id ≡ false → conn_at new id ≡ conn_at old id
+  others = joined-others old new f.id conn joins
 
-module _ (old new : Table) (schema : new.schema ≡ old.schema) (f : Entry) (conn : Conn) (joins : Joins old.conns new.conns f.id conn) (none : is_held old.conns f.id ≡ false) (es : List Entry) (are : AreEntries old es) where
-  others : KeepsOthers f.id old.conns new.conns
-  others = joined-others old.conns new.conns f.id conn joins
+  same : IsSame f.id old links new links2
+  same = record { conn = λ x held other. others x other; link = λ x held other. kept x held }
 
-  whole : (id : ConnId) → is_held new.conns id ≡ true → is_listed (ids_of (es ++ f ∷ [])) id ≡ true
-  whole id held =
-      ⊎_elim
-      (λ same. own_end es f id same)
-      (λ other. old_end es f id (are.whole id (sym (ap (λ (o : Option Conn). is_some o) (others id other)) ∙ held)))
-      (cases_Bool (same_id id f.id))
+  apart_from : is_listed (ids_of es) f.id ≡ false
+  apart_from = sym (are.held f.id) ∙ none
 
-  pub entries_joined : f.has_ended ≡ f.link.peer_ended → AreEntries new (es ++ f ∷ [])
-  entries_joined ended =
-      let at : conn_at new.conns f.id ≡ Some conn = joined-own old.conns new.conns f.id conn joins none in
-      let apart = unlisted old es f.id none are.each in
-      record {
-        once = once_end es f apart are.once;
-        each = each_end new es f (entries-other f.id old new schema others es apart are.each)
-            (record {
-              held = ap (λ (o : Option Conn). is_some o) at;
-              ended = ended;
-            });
-        whole = whole;
-      }
+  at : conn_at new f.id ≡ Some conn
+  at = joined-own old new f.id conn joins none
 
-  pub linked_joined : all_linked new.conns (es ++ f ∷ []) ≡ all_linked old.conns es ++ beside conn f ∷ []
+  own_held : (x : ConnId) → same_id x f.id ≡ true → is_held new x ≡ true
+  own_held x own = ap (is_held new) (same_id-is x f.id own) ∙ ap (λ (o : Option Conn). is_some o) at
+
+  pub entries_joined : AreEntries new (es ++ f ∷ [])
+  entries_joined = record {
+    once = once_end es f apart_from are.once;
+    held = λ x.
+        ⊎_elim
+        (λ own. own_held x own ∙ sym (or_true (is_listed (ids_of es) x)) ∙ ap (λ (b : Bool). is_listed (ids_of es) x || b) (sym own))
+        (λ other. ap (λ (o : Option Conn). is_some o) (others x other) ∙ are.held x ∙ sym (or_none (is_listed (ids_of es) x)) ∙ ap (λ (b : Bool). is_listed (ids_of es) x || b) (sym other))
+        (cases_Bool (same_id x f.id))
+        ∙ sym (ids_end es f x);
+  }
+
+  pub linked_joined : all_linked new links2 (es ++ f ∷ []) ≡ all_linked old links es ++ beside conn link f ∷ []
   linked_joined =
-      let at : conn_at new.conns f.id ≡ Some conn = joined-own old.conns new.conns f.id conn joins none in
-      map-append (linked new.conns) es (f ∷ [])
-      ∙ ap (λ (ls : List Linked). ls ++ linked new.conns f ∷ []) (all_linked-other f.id old new schema others es (unlisted old es f.id none are.each))
-      ∙ ap (λ (o : Option Conn). all_linked old.conns es ++ beside (conn_or_none o) f ∷ []) at
+      map-append (linked new links2) es (f ∷ [])
+      ∙ ap (λ (ls : List Linked). ls ++ linked new links2 f ∷ []) (all_linked-other f.id old links new links2 same es (held_of old es are) apart_from)
+      ∙ ap (λ (o : Option Conn). all_linked old links es ++ beside (conn_or_none o) (link_of links2 f.id) f ∷ []) at
+      ∙ ap (λ (l : LinkInMemory). all_linked old links es ++ beside conn l f ∷ []) there

@@ -1,13 +1,15 @@
 pub mod Lookups
-pub mod Rooms
-pub mod Pulling
-pub mod Sends
 pub mod Places
+pub mod Numbers
 pub mod Settling
-pub mod Calls
+pub mod Joined
 mod Shows
 pub mod ToldLines
 pub mod Turns
 pub mod Answering
-pub mod Joined
+pub mod Bridge
+pub mod Over
+pub mod Answered
 mod Empty
+pub mod Owed
+pub mod Listed

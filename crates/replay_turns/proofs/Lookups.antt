@@ -1,98 +1,104 @@
--- A table of which one connection was changed.
-use Rattle.std.proofs.Common.{◌≡◌, ℕ, Bool, true, false, ◌||◌, List, [], ◌∷◌, Option, Some, None, option_map, is_some, refl, sym, ap, subst, ◌∙◌, ⊎_elim}
-use Rattle.std.specs.Prelude.{IfSome}
-use Rattle.std.proofs.lemmas.Bool.{cases_Bool}
+-- What stands at an id, or at a number.
+use Rattle.std.proofs.Common.{◌≡◌, ℕ, zero, suc, ◌+◌, ◌<◌, true, false, eqb, List, [], ◌∷◌, length, get_or, Option, Some, None, option_map, refl, sym, ap, subst, ◌∙◌, ⊎_elim, arith}
+use Rattle.std.specs.Prelude.{unwrap_or}
+use Rattle.std.specs.List.{AllByRecursion}
+use Rattle.std.proofs.lemmas.Bool.{cases_Bool, eqb-true}
 use Rattle.request_types.specs.declared.connections.ConnId.{ConnId}
+use Rattle.hs_outside.specs.MemoryLink.{LinkInMemory, fresh_link}
 use Rattle.line_pipeline.specs.declared.conns.Conn.{Conn}
-use Rattle.line_pipeline.specs.Output.{IsFront}
-use Rattle.line_pipeline.specs.Conn.{unsent_of}
-use Rattle.request_types.specs.Ids.{same_id}
-use Rattle.line_pipeline.specs.Table.{Table, conn_at, is_held, changed, all_changed}
-use Rattle.line_pipeline.proofs.TableLemmas.{conn_at-changed, kept}
+use Rattle.line_pipeline.specs.Gathered.{conn_or_none}
+use Rattle.batch_worker.specs.Linked.{link_at}
 use Rattle.replay_turns.specs.declared.entries.Entry.{Entry}
-use Rattle.line_pipeline.specs.Gathered.{conn_or_none, conn_of}
-use Rattle.replay_turns.specs.Entries.{Keeps, KeepsLink}
+use Rattle.replay_turns.specs.Linked.{Linked, linked_at, has_ended, on}
+use Rattle.replay_turns.specs.Told.{left_by}
+use Rattle.replay_turns.specs.Entries.{link_of, linked, all_linked, place_from}
 
--- ---- the connection of this id
-
-pub conn_at-own : (f : Conn → Conn) (id : ConnId) (cs : List (ConnId × Conn)) → conn_at (changed id f cs) id ≡ option_map f (conn_at cs id)
-conn_at-own f id [] = refl
-conn_at-own f id (c ∷ cs) =
-    ⊎_elim
-    (λ is. rw is (rw is refl))
-    (λ other. rw other (rw other (conn_at-own f id cs)))
-    (cases_Bool (same_id c.0 id))
-
-held-map : (f : Conn → Conn) (o : Option Conn) → is_some o ≡ true → is_some (option_map f o) ≡ true
-held-map f None is = is
-held-map f (Some conn) is = refl
-
-or_none-map : (f : Conn → Conn) (o : Option Conn) → is_some o ≡ true → conn_or_none (option_map f o) ≡ f (conn_or_none o)
-or_none-map f None is = cc
-or_none-map f (Some conn) is = refl
-
-pub conn_of-own : (f : Conn → Conn) (id : ConnId) (old new : Table) → new ≡ record old { conns = changed id f old.conns } → is_held old.conns id ≡ true → conn_of new.conns id ≡ f (conn_of old.conns id)
-conn_of-own f id old new is held =
-    ap (λ (t : Table). conn_of t.conns id) is
-    ∙ ap conn_or_none (conn_at-own f id old.conns)
-    ∙ or_none-map f (conn_at old.conns id) held
-
--- what is said of the connection that is found
 pub found-is : {X : Type 0} (g : Conn → X) (o : Option Conn) (x : X) → option_map g o ≡ Some x → g (conn_or_none o) ≡ x
 found-is g None x is = cc
 found-is g (Some conn) x is = cc
 
--- ---- what is kept
+pub link-is : (links : List (Option LinkInMemory)) (id : ConnId) (link : LinkInMemory) → link_at links id ≡ Some link → link_of links id ≡ link
+link-is links id link is = ap (λ (o : Option LinkInMemory). unwrap_or o fresh_link) is
 
-pub keeps-changed : (f : Conn → Conn) (id : ConnId) (old new : Table) → new ≡ record old { conns = changed id f old.conns } → Keeps id old new
-keeps-changed f id old new is =
-    let at : conn_at new.conns id ≡ option_map f (conn_at old.conns id) = ap (λ (t : Table). conn_at t.conns id) is ∙ conn_at-own f id old.conns in
-    record {
-      rest = kept old old new _ refl is;
-      others = λ other apart. ap (λ (t : Table). conn_at t.conns other) is ∙ conn_at-changed f id other old.conns apart;
-      held = λ held. subst (λ (o : Option Conn). is_some o ≡ true) (sym at) (held-map f (conn_at old.conns id) held);
-    }
+-- ---- the first entry of a number
 
-pub keeps-none : (id : ConnId) (table : Table) → Keeps id table table
-keeps-none id table = record { rest = refl; others = λ other apart. refl; held = λ held. held }
+-- The first entry with this number is at this place.
+abbrev pub Found : ℕ → List Entry → ℕ → Type 0
+Found number [] at = ⊥
+Found number (e ∷ es) zero = eqb e.number number ≡ true
+Found number (e ∷ es) (suc at) = (eqb e.number number ≡ false) × Found number es at
 
-pub keeps-then : (id : ConnId) (a b c : Table) → Keeps id a b → Keeps id b c → Keeps id a c
-keeps-then id a b c first second =
-    record {
-      rest = kept a b c _ first.rest second.rest;
-      others = λ other apart. second.others other apart ∙ first.others other apart;
-      held = λ held. second.held (first.held held);
-    }
+-- None has it.
+abbrev pub Missing : ℕ → List Entry → Type 0
+Missing number es = AllByRecursion (λ (e : Entry). eqb e.number number ≡ false) es
 
--- ---- an entry of which only the link was changed
+some_is : {X : Type 0} (a b : X) → Some a ≡ Some b → a ≡ b
+some_is a b is = cc
 
-same_id_of : (e f : Entry) → KeepsLink e f → f.id ≡ e.id
-same_id_of e f link = ap (λ (x : Entry). x.id) link.rest
+found-from : (number start : ℕ) (es : List Entry) (at : ℕ) → place_from start number es ≡ Some at → (k : ℕ) × (at ≡ start + k) × Found number es k
+found-from number start [] at is = cc
+found-from number start (e ∷ es) at is =
+    ⊎_elim
+    (λ here. (0, omega (arith, some_is start at (sym (rw here refl) ∙ is)), here))
+    (λ other.
+    let later = found-from number (start + 1) es at (rw other refl ∙ is) in
+    (suc later.0, omega (arith, later.1), (other, later.2)))
+    (cases_Bool (eqb e.number number))
 
-pub keeps_at : (e f : Entry) (old new : Table) → KeepsLink e f → Keeps f.id old new → Keeps e.id old new
-keeps_at e f old new link keeps = subst (λ (id : ConnId). Keeps id old new) (same_id_of e f link) keeps
+pub found : (number : ℕ) (es : List Entry) (at : ℕ) → place_from 0 number es ≡ Some at → Found number es at
+found number es at is =
+    let f = found-from number 0 es at is in
+    subst (λ (k : ℕ). Found number es k) (omega (arith, f.1)) f.2
 
-pub held_at : (e f : Entry) (old new : Table) → KeepsLink e f → Keeps e.id old new → is_held old.conns e.id ≡ true → is_held new.conns f.id ≡ true
-held_at e f old new link keeps held = subst (λ (id : ConnId). is_held new.conns id ≡ true) (sym (same_id_of e f link)) (keeps.held held)
+missing-from : (number start : ℕ) (es : List Entry) → place_from start number es ≡ None → Missing number es
+missing-from number start [] is = tt
+missing-from number start (e ∷ es) is =
+    ⊎_elim
+    (λ here. absurd (none_some start (sym (rw here refl ∙ is))))
+    (λ other. (other, missing-from number (start + 1) es (rw other refl ∙ is)))
+    (cases_Bool (eqb e.number number))
+  where
+    none_some : (n : ℕ) → ◌≡◌ {A = Option ℕ} None (Some n) → ⊥
+    none_some n is = cc
 
--- ---- a list of one id
+pub missing : (number : ℕ) (es : List Entry) → place_from 0 number es ≡ None → Missing number es
+missing number es is = missing-from number 0 es is
 
-or_none : (b : Bool) → (b || false) ≡ b
-or_none true = refl
-or_none false = refl
+pub below : (number : ℕ) (es : List Entry) (at : ℕ) → Found number es at → at < length es
+below number [] at is = absurd is
+below number (e ∷ es) zero is = omega arith
+below number (e ∷ es) (suc at) is = omega (arith, below number es at is.1)
 
-all_one : (f : Conn → Conn) (id : ConnId) (cs : List (ConnId × Conn)) → all_changed (id ∷ []) f cs ≡ changed id f cs
-all_one f id [] = refl
-all_one f id (c ∷ cs) = rw (or_none (same_id c.0 id), all_one f id cs) refl
+pub found-number : (number : ℕ) (es : List Entry) (at : ℕ) (d : Entry) → Found number es at → (get_or es at d).number ≡ number
+found-number number [] at d is = absurd is
+found-number number (e ∷ es) zero d is = eqb-true e.number number is
+found-number number (e ∷ es) (suc at) d is = found-number number es at d is.1
 
-pub one_changed : (f : Conn → Conn) (id : ConnId) (old new : Table) → new ≡ record old { conns = all_changed (id ∷ []) f old.conns } → new ≡ record old { conns = changed id f old.conns }
-one_changed f id old new is = is ∙ ap (λ (cs : List (ConnId × Conn)). record old { conns = cs }) (all_one f id old.conns)
+-- ---- the connection of a number
 
--- ---- the bytes that wait
+module _ (cs : List (ConnId × Conn)) (links : List (Option LinkInMemory)) where
+  pub linked_at-missing : (number : ℕ) (es : List Entry) → Missing number es → linked_at number (all_linked cs links es) ≡ None
+  linked_at-missing number [] none = refl
+  linked_at-missing number (e ∷ es) none = rw none.0 (linked_at-missing number es none.1)
 
-front_by : (piece : List ℕ) (o : Option Conn) → is_some o ≡ true → IfSome o (λ conn. IsFront piece (unsent_of conn)) → IsFront piece (unsent_of (conn_or_none o))
-front_by piece None is front = cc
-front_by piece (Some conn) is front = front
+  pub on-missing : (number : ℕ) (f : Linked → Linked) (es : List Entry) → Missing number es → on number f (all_linked cs links es) ≡ all_linked cs links es
+  on-missing number f [] none = refl
+  on-missing number f (e ∷ es) none = rw none.0 (ap (λ (ls : List Linked). linked cs links e ∷ ls) (on-missing number f es none.1))
 
-pub front-is : (piece : List ℕ) (cs : List (ConnId × Conn)) (id : ConnId) → is_held cs id ≡ true → IfSome (conn_at cs id) (λ conn. IsFront piece (unsent_of conn)) → IsFront piece (unsent_of (conn_of cs id))
-front-is piece cs id held front = front_by piece (conn_at cs id) held front
+  pub left_by-missing : (number : ℕ) (es : List Entry) → Missing number es → left_by number (all_linked cs links es) ≡ all_linked cs links es
+  left_by-missing number [] none = refl
+  left_by-missing number (e ∷ es) none = rw none.0 (ap (λ (ls : List Linked). linked cs links e ∷ ls) (left_by-missing number es none.1))
+
+  pub linked_at-found : (number : ℕ) (es : List Entry) (at : ℕ) (d : Entry) → Found number es at → linked_at number (all_linked cs links es) ≡ Some (linked cs links (get_or es at d))
+  linked_at-found number [] at d is = absurd is
+  linked_at-found number (e ∷ es) zero d is = rw is refl
+  linked_at-found number (e ∷ es) (suc at) d is = rw is.0 (linked_at-found number es at d is.1)
+
+  pub has_ended-found : (number : ℕ) (es : List Entry) (at : ℕ) (d : Entry) → Found number es at → has_ended number (all_linked cs links es) ≡ (link_of links (get_or es at d).id).peer_ended
+  has_ended-found number [] at d is = absurd is
+  has_ended-found number (e ∷ es) zero d is = rw is refl
+  has_ended-found number (e ∷ es) (suc at) d is = rw is.0 (has_ended-found number es at d is.1)
+
+  pub has_ended-missing : (number : ℕ) (es : List Entry) → Missing number es → has_ended number (all_linked cs links es) ≡ false
+  has_ended-missing number [] none = refl
+  has_ended-missing number (e ∷ es) none = rw none.0 (has_ended-missing number es none.1)

@@ -1,5 +1,5 @@
 -- What a batch makes of the connections of a turn is what answering them one after another does.
-use Rattle.std.proofs.Common.{◌≡◌, ℕ, Bool, true, false, ◌||◌, List, [], ◌∷◌, ◌++◌, length, map, Some, option_map, refl, sym, ap, subst, ◌∙◌, ⊎_elim}
+use Rattle.std.proofs.Common.{◌≡◌, ℕ, Bool, true, false, ◌||◌, List, [], ◌∷◌, ◌++◌, length, map, refl, sym, ap, subst, ◌∙◌, ⊎_elim}
 use Rattle.std.specs.Prelude.{if◌then◌else◌, nat_lt}
 use Rattle.std.proofs.lemmas.Bool.{cases_Bool, or_parts}
 use Rattle.request_types.specs.declared.connections.ConnId.{ConnId}
@@ -12,49 +12,18 @@ use Rattle.line_pipeline.specs.declared.conns.Conn.TheVariants as conns
 use Rattle.line_pipeline.specs.Live.{Live, taken_lines, kinds_of, left_by, behind, item_of}
 use Rattle.line_pipeline.specs.Conn.{took, answered, place_used}
 use Rattle.request_types.specs.Ids.{same_id, is_listed, are_once}
-use Rattle.line_pipeline.specs.Table.{conn_at, all_changed}
-use Rattle.line_pipeline.specs.Gathered.{batch_of}
-use Rattle.line_pipeline.specs.Settled.{told, all_told, answered_by}
+use Rattle.line_pipeline.specs.Settled.{told, answered_by}
 use Rattle.request_types.proofs.Ids.{same_id-refl, same_id-is, once-head, once-tail}
 use Rattle.table_rows.specs.Database.{Database}
 use Rattle.batch_answers.specs.Answers.{replies_to, after_all}
 use Rattle.batch_answers.specs.Batches.{parts_of}
-use Rattle.line_pipeline.specs.Gathered.{conn_of}
-use Rattle.line_pipeline.specs.Gathered.{asked}
+use Rattle.line_pipeline.specs.Gathered.{batch_of, conn_of, asked}
+use Rattle.batch_worker.proofs.Gathered.{where_listed}
+use Rattle.batch_worker.proofs.Turned.{other_items}
 use Rattle.replay_turns.specs.Replying.{replied}
 use Rattle.request_types.specs.Batches.{conns_of}
 use Rattle.batch_answers.proofs.Parts.{answered-heads}
 use Rattle.line_pipeline.proofs.Runs.{kinds_at, groups, with_group, items_are, heads_unlisted, unlisted}
-
--- ---- lookups
-
--- a change of the listed alone
-abbrev pub where_listed : List ConnId → (Conn → Conn) → ConnId → Conn → Conn
-where_listed ids f x conn = if is_listed ids x then f conn else conn
-
-all_head : (f : Conn → Conn) (ids : List ConnId) (c : ConnId × Conn) (cs : List (ConnId × Conn)) (x : ConnId) → conn_at (all_changed ids f cs) x ≡ option_map (where_listed ids f x) (conn_at cs x) → (b : Bool) → is_listed ids c.0 ≡ b → conn_at (all_changed ids f (c ∷ cs)) x ≡ option_map (where_listed ids f x) (conn_at (c ∷ cs) x)
-all_head f ids c cs x later true is =
-    ⊎_elim
-    (λ same. let here : is_listed ids x ≡ true = subst (λ (i : ConnId). is_listed ids i ≡ true) (same_id-is c.0 x same) is in rw is (rw same (rw here refl)))
-    (λ other. rw is (rw other later))
-    (cases_Bool (same_id c.0 x))
-all_head f ids c cs x later false is =
-    ⊎_elim
-    (λ same. let here : is_listed ids x ≡ false = subst (λ (i : ConnId). is_listed ids i ≡ false) (same_id-is c.0 x same) is in rw is (rw same (rw here refl)))
-    (λ other. rw is (rw other later))
-    (cases_Bool (same_id c.0 x))
-
-pub conn_at-all : (f : Conn → Conn) (ids : List ConnId) (cs : List (ConnId × Conn)) (x : ConnId) → conn_at (all_changed ids f cs) x ≡ option_map (where_listed ids f x) (conn_at cs x)
-conn_at-all f ids [] x = refl
-conn_at-all f ids (c ∷ cs) x = all_head f ids c cs x (conn_at-all f ids cs x) (is_listed ids c.0) refl
-
-pub conn_at-told : (parts : List Part) (cs : List (ConnId × Conn)) (x : ConnId) → conn_at (all_told parts cs) x ≡ option_map (λ (conn : Conn). told parts (x, conn)) (conn_at cs x)
-conn_at-told parts [] x = refl
-conn_at-told parts (c ∷ cs) x =
-    ⊎_elim
-    (λ same. rw same (ap (λ (i : ConnId). Some (told parts (i, c.1))) (same_id-is c.0 x same)))
-    (λ other. rw other (conn_at-told parts cs x))
-    (cases_Bool (same_id c.0 x))
 
 -- ---- what becomes of one connection
 
@@ -108,10 +77,6 @@ told_none (part ∷ parts) x conn none =
     let apart = or_parts (same_id x part.conn) (is_listed (answered_by parts) x) none in
     rw apart.0 (told_none parts x conn apart.1)
 
-listed_other : (id x : ConnId) (kinds : List ItemKind) (items : List Item) → same_id x id ≡ false → is_listed (conns_of (map (item_of id) kinds ++ items)) x ≡ is_listed (conns_of items) x
-listed_other id x [] items apart = refl
-listed_other id x (kind ∷ kinds) items apart = rw apart (listed_other id x kinds items apart)
-
 listed_own : (x : ConnId) (kind : ItemKind) (kinds : List ItemKind) (items : List Item) → is_listed (conns_of (map (item_of x) (kind ∷ kinds) ++ items)) x ≡ true
 listed_own x kind kinds items = rw (same_id-refl x) refl
 
@@ -120,7 +85,7 @@ module _ (schema : Schema) (cs : List (ConnId × Conn)) where
   step_other : (db : Database) (id : ConnId) (ids : List ConnId) (x : ConnId) (conn : Conn) → same_id x id ≡ false → settled_conn schema cs db (id ∷ ids) x conn ≡ settled_conn schema cs (after_all db (kinds_at schema cs id)) ids x conn
   step_other db id ids x conn apart =
       let kinds = kinds_at schema cs id in
-      let listed : is_listed (conns_of (batch_of schema cs (id ∷ ids))) x ≡ is_listed (conns_of (batch_of schema cs ids)) x = ap (λ (items : List Item). is_listed (conns_of (items ++ batch_of schema cs ids)) x) (items_are schema cs id) ∙ listed_other id x kinds (batch_of schema cs ids) apart in
+      let listed : is_listed (conns_of (batch_of schema cs (id ∷ ids))) x ≡ is_listed (conns_of (batch_of schema cs ids)) x = ap (λ (items : List Item). is_listed (conns_of (items ++ batch_of schema cs ids)) x) (items_are schema cs id) ∙ other_items id x kinds (batch_of schema cs ids) apart in
       let took_it : where_listed (id ∷ ids) (took schema) x conn ≡ where_listed ids (took schema) x conn = rw apart refl in
       let told_it = told_other db id x kinds (groups schema cs ids) (where_listed ids (took schema) x conn) apart in
       ap (λ (b : Bool). if b then place_used (told (parts_of db (groups schema cs (id ∷ ids))) (x, where_listed (id ∷ ids) (took schema) x conn)) else told (parts_of db (groups schema cs (id ∷ ids))) (x, where_listed (id ∷ ids) (took schema) x conn)) listed

@@ -1,33 +1,43 @@
 -- How connections stand beside their links. No public clause cites this file.
-use Rattle.std.specs.Prelude.{◌≡◌, ℕ, ◌+◌, ◌==◌, true, false, List, [], ◌∷◌, ◌++◌, map, option_to_list, Option, Some, None, if◌then◌else◌}
-use Rattle.std.specs.List.{AllByRecursion}
+use Rattle.std.specs.Prelude.{◌≡◌, ℕ, ◌+◌, ◌==◌, ◌&&◌, Bool, true, List, [], ◌∷◌, ◌++◌, map, option_to_list, unwrap_or, Option, Some, None, if◌then◌else◌}
+use Rattle.std.specs.List.{list_any}
 use Rattle.request_types.specs.declared.connections.ConnId.{ConnId}
+use Rattle.hs_outside.specs.MemoryLink.{LinkInMemory, fresh_link}
 use Rattle.line_pipeline.specs.declared.conns.Conn.{Conn}
 use Rattle.line_pipeline.specs.Gathered.{conn_of}
-use Rattle.request_types.specs.Ids.{same_id, is_listed, are_once}
-use Rattle.line_pipeline.specs.Table.{Table, conn_at, is_held}
+use Rattle.request_types.specs.Ids.{is_listed, are_once}
+use Rattle.line_pipeline.specs.Table.{is_held}
+use Rattle.batch_worker.specs.Linked.{LinkTable, link_at}
+use Rattle.batch_worker.specs.Told.{Told}
 use Rattle.replay_turns.specs.declared.entries.Entry.{Entry}
 use Rattle.replay_turns.specs.Linked.{Linked}
 
--- a connection beside this link
-abbrev pub beside : Conn → Entry → Linked
-beside conn e = record {
-  number = e.number;
-  port = e.port;
+-- the link of a connection
+abbrev pub link_of : List (Option LinkInMemory) → ConnId → LinkInMemory
+link_of links id = unwrap_or (link_at links id) fresh_link
+
+-- what is told of a connection on a link
+abbrev pub told_of : Conn → LinkInMemory → Told
+told_of conn link = record {
   conn = conn;
-  left = e.link.left;
-  peer_ended = e.link.peer_ended;
-  room = e.link.room;
-  fails_next = e.link.fails_next;
+  sent = link.sent;
+  left = link.left;
+  peer_ended = link.peer_ended;
+  room = link.room;
+  fails_next = link.fails_next;
 }
 
--- the connection of an entry, with its link
-abbrev pub linked : List (ConnId × Conn) → Entry → Linked
-linked cs e = beside (conn_of cs e.id) e
+-- the entry of a connection on a link
+abbrev pub beside : Conn → LinkInMemory → Entry → Linked
+beside conn link e = record { number = e.number; port = e.port; told = told_of conn link }
+
+-- the connection of an entry, on its link
+abbrev pub linked : List (ConnId × Conn) → List (Option LinkInMemory) → Entry → Linked
+linked cs links e = beside (conn_of cs e.id) (link_of links e.id) e
 
 -- the connections of all entries
-abbrev pub all_linked : List (ConnId × Conn) → List Entry → List Linked
-all_linked cs es = map (linked cs) es
+abbrev pub all_linked : List (ConnId × Conn) → List (Option LinkInMemory) → List Entry → List Linked
+all_linked cs links es = map (linked cs links) es
 
 -- the place of the first entry with this number, where the first of them has that place
 abbrev pub place_from : ℕ → ℕ → List Entry → Option ℕ
@@ -48,24 +58,15 @@ ids_at es (number ∷ numbers) = option_to_list (id_at number es) ++ ids_at es n
 abbrev pub ids_of : List Entry → List ConnId
 ids_of es = map (λ (e : Entry). e.id) es
 
--- an entry's connection is held, and what the entry says of the peer's end is so
-pub record IsEntry (table : Table) (e : Entry) : Type 0 where
-  pub held : is_held table.conns e.id ≡ true
-  pub ended : e.has_ended ≡ e.link.peer_ended
-
--- no id is there twice, each is an entry, and every connection that is held has one
-pub record AreEntries (table : Table) (es : List Entry) : Type 0 where
+-- no id is there twice, and the connections that are held are those of the entries
+pub record AreEntries (cs : List (ConnId × Conn)) (es : List Entry) : Type 0 where
   pub once : are_once (ids_of es) ≡ true
-  pub each : AllByRecursion (IsEntry table) es
-  pub whole : (id : ConnId) → is_held table.conns id ≡ true → is_listed (ids_of es) id ≡ true
+  pub held : (id : ConnId) → is_held cs id ≡ is_listed (ids_of es) id
 
--- only the connection of this id was changed, and what is kept of it holds still
-pub record Keeps (id : ConnId) (old new : Table) : Type 0 where
-  pub rest : new ≡ record old { conns = new.conns }
-  pub others : (other : ConnId) → same_id other id ≡ false → conn_at new.conns other ≡ conn_at old.conns other
-  pub held : is_held old.conns id ≡ true → is_held new.conns id ≡ true
+-- a connection of this id is held, and memory was refused to its link
+abbrev pub is_short_at : LinkTable LinkInMemory → ConnId → Bool
+is_short_at t id = is_held t.table.conns id && (link_of t.links id).is_short
 
--- only the link was changed, and not whether its peer has ended
-pub record KeepsLink (old new : Entry) : Type 0 where
-  pub rest : new ≡ record old { link = new.link }
-  pub ended : new.link.peer_ended ≡ old.link.peer_ended
+-- there is one of these
+abbrev pub are_short : LinkTable LinkInMemory → List ConnId → Bool
+are_short t ids = list_any (is_short_at t) ids

@@ -1,11 +1,10 @@
 pub mod Linked
-pub mod Receiving
 pub mod Replying
-pub mod Sending
 pub mod Told
 pub mod Session
 pub mod Entries
-pub mod Steps
 pub mod Connected
 pub mod Sayings
 pub mod Shown
+pub mod Telling
+pub mod Owed

@@ -7,7 +7,7 @@ use Rattle.line_pipeline.specs.Conn.{took, answered}
 use Rattle.line_pipeline.specs.Gathered.{asked}
 use Rattle.table_rows.specs.Database.{Database}
 use Rattle.batch_answers.specs.Answers.{replies_to, after_all}
-use Rattle.replay_turns.specs.Linked.{Linked, linked_at, on}
+use Rattle.replay_turns.specs.Linked.{Linked, linked_at, on, with}
 
 -- It without these lines, with the replies to them at the end of its output. One that gives no line stays as it is.
 abbrev pub replied : Schema → Database → Conn → Conn
@@ -18,12 +18,12 @@ replied schema db conn = by (asked schema conn) where
 
 -- The same of it and its link.
 abbrev pub with_replies : Schema → Database → Linked → Linked
-with_replies schema db l = record l { conn = replied schema db l.conn }
+with_replies schema db = with (λ t. record t { conn = replied schema db t.conn })
 
 -- The rows that the requests of a connection leave, if there is one.
 abbrev pub rows_after : Schema → Database → Option Linked → Database
 rows_after schema db None = db
-rows_after schema db (Some l) = after_all db (asked schema l.conn)
+rows_after schema db (Some l) = after_all db (asked schema l.told.conn)
 
 -- The rows and the connections once those of these numbers were answered, one after another.
 abbrev pub all_replied : Schema → List ℕ → Database → List Linked → Database × List Linked

@@ -1,5 +1,5 @@
--- What a turn prints.
-use Rattle.std.specs.Prelude.{ℕ, List, [], ◌∷◌, ◌++◌, codes, decimal, Option, Some, None}
+-- What a turn prints, and which connections it lets go.
+use Rattle.std.specs.Prelude.{ℕ, ◌==◌, List, [], ◌∷◌, ◌++◌, length, drop, codes, decimal, Option, Some, None, if◌then◌else◌}
 use Rattle.hs_token.specs.declared.tokens.Token.TheVariants as tokens
 use Rattle.hs_token.specs.Spelling.{line_spelled}
 use Rattle.line_pipeline.specs.declared.conns.Conn.{Conn}
@@ -7,7 +7,6 @@ use Rattle.line_pipeline.specs.declared.conns.Conn.TheVariants as conns
 use Rattle.line_pipeline.specs.declared.reasons.Reason.{Reason}
 use Rattle.line_pipeline.specs.declared.reasons.Reason.TheVariants as reasons
 use Rattle.replay_turns.specs.Linked.{Linked, linked_at}
-use Rattle.replay_turns.specs.Sending.{bytes_of, passed, on_sending}
 
 -- The word for the reason of a closing.
 abbrev pub reason_word : Reason → List ℕ
@@ -30,13 +29,35 @@ abbrev pub closed_line : ℕ → Conn → List ℕ
 closed_line number (conns.Live live) = []
 closed_line number (conns.Closed reason) = line_of (codes "closed") number (reason_word reason)
 
--- What is told of a connection, if there is one.
-abbrev pub told : Option Linked → List ℕ
-told None = []
-told (Some l) = sent_line l.number (bytes_of l) ++ closed_line l.number (passed l).conn
+-- How many bytes a connection was sent so far, if there is one.
+abbrev pub sent_so_far : Option Linked → ℕ
+sent_so_far None = 0
+sent_so_far (Some l) = length l.told.sent
 
--- The connections of these numbers are sent their bytes, one after another: the text, and the connections after it.
-abbrev pub all_sending : List ℕ → List Linked → List ℕ × List Linked
-all_sending [] ls = ([], ls)
-all_sending (number ∷ numbers) ls =
-    let later = all_sending numbers (on_sending number ls) in (told (linked_at number ls) ++ later.0, later.1)
+-- What is told of a connection that had been sent so many bytes before, if there is one.
+abbrev pub told : ℕ → Option Linked → List ℕ
+told before None = []
+told before (Some l) = sent_line l.number (drop before l.told.sent) ++ closed_line l.number l.told.conn
+
+-- What is told of the connections of these numbers, by how they were before and after, one after another.
+abbrev pub all_told : List ℕ → List Linked → List Linked → List ℕ
+all_told [] before after = []
+all_told (number ∷ numbers) before after =
+    told (sent_so_far (linked_at number before)) (linked_at number after) ++ all_told numbers before after
+
+-- A connection before the others, unless it is closed.
+abbrev pub unless_closed : Linked → List Linked → List Linked
+unless_closed l ls = by l.told.conn where
+  by : Conn → List Linked
+  by (conns.Live live) = l ∷ ls
+  by (conns.Closed reason) = ls
+
+-- The connections without that of this number, where it is closed.
+abbrev pub left_by : ℕ → List Linked → List Linked
+left_by number [] = []
+left_by number (l ∷ ls) = if l.number == number then unless_closed l ls else l ∷ left_by number ls
+
+-- The connections without those of these numbers that are closed.
+abbrev pub all_left : List ℕ → List Linked → List Linked
+all_left [] ls = ls
+all_left (number ∷ numbers) ls = all_left numbers (left_by number ls)

@@ -1,20 +1,16 @@
-//! A connection's number, its id and its link.
+//! A connection's number and its id.
 ghost use Rattle.std.specs.Prelude.{◌≡◌, ◌++◌, option_to_list, OnOk, IfOk};
 ghost use Rattle.replay_turns.specs.Entries.{place_from, id_at, ids_at};
 
-use hs_outside::MemLink;
 use request_types::{ConnId, Port};
 use std::alloc::{AllocError, Global};
 
-/// What is kept of a connection beside the table.
+/// What is kept of a connection beside it and its link.
 #[derive(Drop)]
 pub struct Entry {
     pub number: u32,
     pub port: Port,
     pub id: ConnId,
-    pub link: MemLink,
-    /// Whether the link's peer has ended.
-    pub has_ended: bool,
 }
 
 /// The place of the entry with this number.
@@ -41,7 +37,8 @@ pub fn ids_at(alloc: Global, entries: &[Entry], numbers: &[u32]) -> Result<Vec<C
 }
 
 fn push_id(ids: &mut Vec<ConnId>, entries: &[Entry], number: u32) -> Result<(), AllocError>
-    ensures { OnOk result (ids.new.items ≡ ids.old.items ++ option_to_list (id_at number entries.now)) }
+    ensures { OnOk result (ids.new.items
+        ≡ ids.old.items ++ option_to_list (id_at number entries.now)) }
 {
     match id_at(entries, number) {
         Some(id) => Ok(ids.push(id)?),

@@ -1,10 +1,11 @@
 //! What is asked of connections, and what is said beforehand of their peers and links.
 ghost use Rattle.std.specs.Prelude.{◌≡◌, length, option_map, OnOk};
 ghost use Rattle.replay_turns.specs.Linked.{Linked, on, linked_at, has_ended, peer_sent};
-ghost use Rattle.replay_turns.specs.Sayings.{EntrySaid, said};
+ghost use Rattle.replay_turns.specs.Sayings.{said, link_said};
 
 use crate::connections::Connections;
-use crate::entries::{Entry, place_of};
+use crate::entries::place_of;
+use hs_outside::MemLink;
 use request_types::Port;
 use std::alloc::AllocError;
 
@@ -39,7 +40,7 @@ impl Connections {
         ensures { result ≡ has_ended number self.now.conns }
     {
         match place_of(&self.entries, number) {
-            Some(at) => self.entries[at].has_ended,
+            Some(at) => self.links.link(self.entries[at].id).peer_ended(),
             None => false,
         }
     }
@@ -54,8 +55,11 @@ impl Connections {
         let Some(at) = place_of(&self.entries, number) else {
             return Ok(());
         };
-        let entry = &mut self.entries[at];
-        entry.link.peer_bytes(piece)
+        let id = self.entries[at].id;
+        let mut link = self.links.replace_link(id, MemLink::new(self.alloc));
+        let taken = link.peer_bytes(piece);
+        self.links.replace_link(id, link);
+        taken
     }
 
     /// What a peer or a link will do.
@@ -65,20 +69,19 @@ impl Connections {
         let Some(at) = place_of(&self.entries, number) else {
             return;
         };
-        let entry = &mut self.entries[at];
-        say(entry, saying);
+        let id = self.entries[at].id;
+        let mut link = self.links.replace_link(id, MemLink::new(self.alloc));
+        say(&mut link, saying);
+        self.links.replace_link(id, link);
     }
 }
 
-fn say(entry: &mut Entry, saying: Saying)
-    ensures { EntrySaid saying entry.old entry.new }
+fn say(link: &mut MemLink, saying: Saying)
+    ensures { link.new ≡ link_said saying link.old }
 {
     match saying {
-        Saying::PeerEnds => {
-            entry.link.peer_end();
-            entry.has_ended = true;
-        }
-        Saying::Room(count) => entry.link.room(count),
-        Saying::FailsNext => entry.link.fail_next(),
+        Saying::PeerEnds => link.peer_end(),
+        Saying::Room(count) => link.room(count),
+        Saying::FailsNext => link.fail_next(),
     }
 }

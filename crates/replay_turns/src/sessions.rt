@@ -80,10 +80,11 @@ impl Session {
     ) -> Result<(), AllocError>
         requires { are_distinct nat_eq listed.now ≡ true }
         ensures session { OnOk result (self.new ≡ (turn listed.now self.old).1) }
-        ensures text { OnOk result (text.new.items ≡ text.old.items ++ (turn listed.now self.old).0) }
+        ensures text { OnOk result
+            (text.new.items ≡ text.old.items ++ (turn listed.now self.old).0) }
         ensures schema { self.new.schema ≡ self.old.schema }
     {
-        self.connections.receive_all(listed)?;
+        let counts = self.connections.counts(alloc, listed)?;
         self.connections.answer(
             alloc,
             listed,
@@ -92,7 +93,9 @@ impl Session {
             &mut self.undo,
         )?;
         self.undo.clear();
-        self.connections.send_all(listed, text)
+        self.connections.tell_all(listed, &counts, text)?;
+        self.connections.let_go_all(listed);
+        Ok(())
     }
 
     /// One more connection. Without memory, or where its table is full, there is none.
@@ -145,7 +148,9 @@ impl Session {
 
     /// From now on the link takes so many more bytes.
     pub fn room(&mut self, number: u32, count: u64)
-        ensures { self.new ≡ record self.old { conns = on number (with_room count) self.old.conns } }
+        ensures { self.new ≡ record self.old {
+          conns = on number (with_room count) self.old.conns;
+        } }
     {
         self.connections.say(number, Saying::Room(count));
     }
@@ -157,8 +162,8 @@ impl Session {
         self.connections.say(number, Saying::FailsNext);
     }
 
-    /// The rows of the table with these names, that of its database first, in the order of its primary key: a line each
-    /// joins the text. None does, where no table has these names.
+    /// The rows of the table with these names, that of its database first, in the order of its
+    /// primary key: a line each joins the text. None does, where no table has these names.
     pub fn show(&self, db: &[u8], name: &[u8], text: &mut Vec<u8>) -> Result<(), AllocError>
         ensures { OnOk result (text.new.items ≡ text.old.items
             ++ rows_shown (table_named self.now.schema.tables db.now name.now) self.now.database) }

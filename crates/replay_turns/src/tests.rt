@@ -1,189 +1,119 @@
-//! Turns of connections: what is printed. A reply to the line `x` tells of an unknown command.
-mod steps;
+//! What no contract of a session says: the memory that it needs is had.
 
 use super::*;
+use crate::sayings::Saying;
+use line_pipeline::Secrets;
 use request_types::Port;
+use row_types::{List, Schema};
 use std::alloc::{AllocError, Global};
 use std::test::Fail;
-use steps::{
-    comes_and_goes, ends, fails, new_session, open_all, prints, prints_both, repeat, replies, room,
-    says, with_one, with_two,
-};
 
-#[test]
-fn a_connection_that_sent_nothing_is_sent_nothing(rt: HostRuntime) -> Result<(), Fail> {
-    let alloc = rt.alloc();
-    let mut session = with_one(alloc)?;
-    assert!(rt; prints(alloc, &mut session, b"sent\t1\t\n")?);
-    assert!(rt; prints(alloc, &mut session, b"sent\t1\t\n")?);
-    assert!(rt; session.count() == 1);
-    assert!(rt; session.port_of(1) == Some(Port::Writing));
-    assert!(rt; session.port_of(2).is_none());
-    assert!(rt; !session.has_ended(1));
+/// A session of no table.
+fn new_session(alloc: Global) -> Result<Session, AllocError> {
+    let schema = Schema {
+        tables: List::new(alloc),
+    };
+    let secrets = Secrets {
+        reading: None,
+        writing: None,
+    };
+    Session::new(alloc, &schema, secrets, 1_000)
+}
+
+/// The peer of connection 1 sends a piece so many times.
+fn sends(session: &mut Session, count: u32, piece: &[u8]) -> Result<(), AllocError> {
+    for _ in 0..count {
+        session.peer_bytes(1, piece)?;
+    }
     Ok(())
 }
 
+/// What the peer of a connection or its link will do.
+fn says(session: &mut Session, number: u32, saying: Saying) {
+    match saying {
+        Saying::PeerEnds => session.peer_end(number),
+        Saying::Room(count) => session.room(number, count),
+        Saying::FailsNext => session.fail_next(number),
+    }
+}
+
+/// Whether a turn of this connection prints this.
+fn prints(
+    alloc: Global,
+    session: &mut Session,
+    number: u32,
+    wanted: &[u8],
+) -> Result<bool, AllocError> {
+    let mut text = Vec::new(alloc);
+    session.turn(alloc, &[number], &mut text)?;
+    Ok(text.as_slice() == wanted)
+}
+
+/// A line `x` is answered that there is no such command.
 #[test]
-fn a_connection_whose_peer_ends_is_let_go(rt: HostRuntime) -> Result<(), Fail> {
+fn a_turn_prints_what_was_sent_and_who_closed(rt: HostRuntime) -> Result<(), Fail> {
     let alloc = rt.alloc();
-    let mut session = with_two(alloc, Port::Reading)?;
-    says(&mut session, b"half a line")?;
-    ends(&mut session);
-    let printed = b"sent\t2\t\nsent\t1\t\nclosed\t1\tended\n";
-    assert!(rt; prints_both(alloc, &mut session, printed)?);
-    assert!(rt; session.count() == 1);
-    assert!(rt; session.port_of(1).is_none());
-    assert!(rt; session.port_of(2) == Some(Port::Reading));
+    for (count, piece, saying, printed) in [
+        (
+            0,
+            b"".as_slice(),
+            Saying::Room(0),
+            b"sent\t1\t\n".as_slice(),
+        ),
+        (1, b"x\n", Saying::Room(3), b"sent\t1\t1\x01\x491\n"),
+        (
+            1,
+            b"x\n",
+            Saying::FailsNext,
+            b"sent\t1\t\nclosed\t1\tlink\n",
+        ),
+        (1, b"x", Saying::PeerEnds, b"sent\t1\t\nclosed\t1\tended\n"),
+        (65_536, b"x", Saying::Room(9), b"sent\t1\t\n"),
+        (
+            65_537,
+            b"x",
+            Saying::Room(9),
+            b"sent\t1\t\nclosed\t1\tlong\n",
+        ),
+    ] {
+        let mut session = new_session(alloc)?;
+        session.open(alloc, 1, Port::Writing)?;
+        sends(&mut session, count, piece)?;
+        says(&mut session, 1, saying);
+        assert!(rt; prints(alloc, &mut session, 1, printed)?);
+    }
     Ok(())
 }
 
-#[test]
-fn a_link_that_fails_closes_its_connection(rt: HostRuntime) -> Result<(), Fail> {
-    let alloc = rt.alloc();
-    let mut session = with_one(alloc)?;
-    says(&mut session, b"x\n")?;
-    fails(&mut session);
-    assert!(rt; prints(alloc, &mut session, b"sent\t1\t\nclosed\t1\tlink\n")?);
-    Ok(())
+/// Whether a connection 7 is let go as soon as its peer ends.
+fn comes_and_goes(alloc: Global, session: &mut Session) -> Result<bool, AllocError> {
+    session.open(alloc, 7, Port::Writing)?;
+    says(session, 7, Saying::PeerEnds);
+    if !session.has_ended(7) {
+        return Ok(false);
+    }
+    prints(alloc, session, 7, b"sent\t7\t\nclosed\t7\tended\n")
 }
 
 #[test]
-fn a_line_that_is_too_long_closes_its_connection(rt: HostRuntime) -> Result<(), Fail> {
-    let alloc = rt.alloc();
-    let mut session = with_one(alloc)?;
-    repeat(&mut session, 65_536, b"x")?;
-    assert!(rt; prints(alloc, &mut session, b"sent\t1\t\n")?);
-    repeat(&mut session, 1, b"x")?;
-    assert!(rt; prints(alloc, &mut session, b"sent\t1\t\nclosed\t1\tlong\n")?);
-    Ok(())
-}
-
-#[test]
-fn numbers_are_free_again_after_a_closing(rt: HostRuntime) -> Result<(), Fail> {
+fn a_place_is_free_again_after_a_closing(rt: HostRuntime) -> Result<(), Fail> {
     let alloc = rt.alloc();
     let mut session = new_session(alloc)?;
-    for _ in 0..300 {
+    for _ in 0..257 {
         assert!(rt; comes_and_goes(alloc, &mut session)?);
     }
-    open_all(alloc, &mut session)?;
+    assert!(rt; session.count() == 0);
+    Ok(())
+}
+
+#[test]
+fn so_many_connections_are_held(rt: HostRuntime) -> Result<(), Fail> {
+    let alloc = rt.alloc();
+    let mut session = new_session(alloc)?;
+    for number in 0..256 {
+        session.open(alloc, number, Port::Writing)?;
+    }
+    assert!(rt; session.open(alloc, 256, Port::Writing).is_err());
     assert!(rt; session.count() == 256);
-    Ok(())
-}
-
-#[test]
-fn a_turn_answers_256_lines_and_the_next_the_others(rt: HostRuntime) -> Result<(), Fail> {
-    let alloc = rt.alloc();
-    let mut session = with_one(alloc)?;
-    repeat(&mut session, 257, b"x\n")?;
-    assert!(rt; replies(alloc, &mut session, 256, b"")?);
-    assert!(rt; replies(alloc, &mut session, 1, b"")?);
-    assert!(rt; replies(alloc, &mut session, 0, b"")?);
-    Ok(())
-}
-
-#[test]
-fn a_peer_that_ends_is_answered_first(rt: HostRuntime) -> Result<(), Fail> {
-    let alloc = rt.alloc();
-    let mut session = with_one(alloc)?;
-    repeat(&mut session, 300, b"x\n")?;
-    ends(&mut session);
-    assert!(rt; is_answered_to_the_end(alloc, &mut session)?);
-    Ok(())
-}
-
-/// Whether 300 lines of a peer that ended are answered by two turns, and it is let go then.
-fn is_answered_to_the_end(alloc: Global, session: &mut Session) -> Result<bool, AllocError> {
-    if !replies(alloc, session, 256, b"")? {
-        return Ok(false);
-    }
-    replies(alloc, session, 44, b"closed\t1\tended\n")
-}
-
-#[test]
-fn the_lines_before_one_that_is_too_long_are_answered(rt: HostRuntime) -> Result<(), Fail> {
-    let alloc = rt.alloc();
-    let mut session = with_one(alloc)?;
-    assert!(rt; answers_the_longest(alloc, &mut session)?);
-    assert!(rt; ends_at_a_longer_one(alloc, &mut session)?);
-    Ok(())
-}
-
-/// Whether the longest line is answered.
-fn answers_the_longest(alloc: Global, session: &mut Session) -> Result<bool, AllocError> {
-    repeat(session, 65_536, b"x")?;
-    says(session, b"\n")?;
-    replies(alloc, session, 1, b"")
-}
-
-/// Whether the line before one that is too long is answered, and the connection closed.
-fn ends_at_a_longer_one(alloc: Global, session: &mut Session) -> Result<bool, AllocError> {
-    says(session, b"x\n")?;
-    repeat(session, 65_537, b"x")?;
-    replies(alloc, session, 1, b"closed\t1\tlong\n")
-}
-
-#[test]
-fn what_a_link_has_no_room_for_waits(rt: HostRuntime) -> Result<(), Fail> {
-    let alloc = rt.alloc();
-    let mut session = with_one(alloc)?;
-    assert!(rt; takes_three_bytes(alloc, &mut session)?);
-    assert!(rt; takes_the_rest(alloc, &mut session)?);
-    Ok(())
-}
-
-/// Whether a link with room for three bytes takes so many of a reply, and then none.
-fn takes_three_bytes(alloc: Global, session: &mut Session) -> Result<bool, AllocError> {
-    room(session, 3);
-    says(session, b"x\n")?;
-    if !prints(alloc, session, b"sent\t1\t1\x01\x491\n")? {
-        return Ok(false);
-    }
-    prints(alloc, session, b"sent\t1\t\n")
-}
-
-/// Whether a link takes the rest of a reply before its connection is let go.
-fn takes_the_rest(alloc: Global, session: &mut Session) -> Result<bool, AllocError> {
-    ends(session);
-    room(session, 100);
-    let printed = b"sent\t1\t\x01\x49cmd\x01\x4a\nclosed\t1\tended\n";
-    prints(alloc, session, printed)
-}
-
-#[test]
-fn a_line_is_answered_once_its_end_has_come(rt: HostRuntime) -> Result<(), Fail> {
-    let alloc = rt.alloc();
-    assert!(rt; two_turns(alloc, b"", 0, b"x\nx\nx\n", 3)?);
-    assert!(rt; two_turns(alloc, b"x", 0, b"\nx\nx\n", 3)?);
-    assert!(rt; two_turns(alloc, b"x\n", 1, b"x\nx\n", 2)?);
-    assert!(rt; two_turns(alloc, b"x\nx", 1, b"\nx\n", 2)?);
-    assert!(rt; two_turns(alloc, b"x\nx\n", 2, b"x\n", 1)?);
-    assert!(rt; two_turns(alloc, b"x\nx\nx", 2, b"\n", 1)?);
-    Ok(())
-}
-
-/// Whether a piece is sent so many replies, and the next so many.
-fn two_turns(
-    alloc: Global,
-    first: &[u8],
-    of_first: u32,
-    second: &[u8],
-    of_second: u32,
-) -> Result<bool, AllocError> {
-    let mut session = with_one(alloc)?;
-    says(&mut session, first)?;
-    if !replies(alloc, &mut session, of_first, b"")? {
-        return Ok(false);
-    }
-    says(&mut session, second)?;
-    replies(alloc, &mut session, of_second, b"")
-}
-
-#[test]
-fn connections_are_told_of_in_the_order_of_the_list(rt: HostRuntime) -> Result<(), Fail> {
-    let alloc = rt.alloc();
-    let mut session = with_two(alloc, Port::Writing)?;
-    says(&mut session, b"x\n")?;
-    let printed = b"sent\t2\t\nsent\t1\t1\x01\x491\x01\x49cmd\x01\x4a\n";
-    assert!(rt; prints_both(alloc, &mut session, printed)?);
     Ok(())
 }
