@@ -1,9 +1,9 @@
 -- Cells that are read are held by their columns and stand in the bytes, and cells that are held are read again.
 --     AreKinds, kinds_of, kinds_at      columns that may be, of a table and of its key
 --     cells_take, cells_again      both ways
---     cells_short      the texts are short
+--     AreFit, fit_short, cells_short      each value fits its column; then the texts are short
 use Rattle.std.proofs.Common.{◌≡◌, ℕ, zero, suc, ◌^◌, ◌<◌, ◌≤◌, Bool, true, false, cond, ltb, List, [], ◌∷◌, ◌++◌, length, get_or, Some, refl, ap, subst, ◌∙◌, append_assoc, arith}
-use Rattle.std.specs.List.{AllByRecursion}
+use Rattle.std.specs.List.{AllByRecursion, AllZip}
 use Rattle.std.proofs.lemmas.Bool.{and_parts, ltb-false, leb-true}
 use Rattle.std.proofs.lemmas.List.Concat.{flat_map-cons}
 use Rattle.row_types.specs.declared.values.Value.{Value}
@@ -48,16 +48,29 @@ short_in (Bytes most) text is fine =
     let most-is : most ≤ 16316 = leb-true _ _ (and_parts _ _ is).1 in
     omega arith
 
-short_held : (column : Column) (value : Value) → is_kind column.kind ≡ true → Holds column value → IsShort value
-short_held column values.Null is holds = tt
-short_held column (values.Int n) is holds = tt
-short_held column (values.Text t) is holds = short_in column.kind t is holds.fits
+short_fit : (column : Column) (value : Value) → is_kind column.kind ≡ true → fit_of column value ≡ Fine → IsShort value
+short_fit column values.Null is fit = tt
+short_fit column (values.Int n) is fit = tt
+short_fit column (values.Text t) is fit = short_in column.kind t is fit
+
+-- each value fits its column
+abbrev pub AreFit : List Column → List Value → Type 0
+AreFit columns values = AllZip (λ (column : Column) (value : Value). fit_of column value ≡ Fine) columns values
+
+pub fit_short : (columns : List Column) (row : List Value) → AreKinds columns → AreFit columns row → AllByRecursion IsShort row
+fit_short [] [] kinds fit = tt
+fit_short [] (v ∷ vs) kinds fit = absurd fit
+fit_short (c ∷ cs) [] kinds fit = absurd fit
+fit_short (c ∷ cs) (v ∷ vs) kinds fit = (short_fit c v kinds.0 fit.0, fit_short cs vs kinds.1 fit.1)
+
+held_fit : (columns : List Column) (row : List Value) → AreHeld columns row → AreFit columns row
+held_fit [] [] held = tt
+held_fit [] (v ∷ vs) held = absurd held
+held_fit (c ∷ cs) [] held = absurd held
+held_fit (c ∷ cs) (v ∷ vs) held = (held.0.fits, held_fit cs vs held.1)
 
 pub cells_short : (columns : List Column) (row : List Value) → AreKinds columns → AreHeld columns row → AllByRecursion IsShort row
-cells_short [] [] kinds held = tt
-cells_short [] (v ∷ vs) kinds held = absurd held
-cells_short (c ∷ cs) [] kinds held = absurd held
-cells_short (c ∷ cs) (v ∷ vs) kinds held = (short_held c v kinds.0 held.0, cells_short cs vs kinds.1 held.1)
+cells_short columns row kinds held = fit_short columns row kinds (held_fit columns row held)
 
 fine_some : {X : Type 0} (fit : Fit) (x y : X) → if_fine fit x ≡ Some y → (fit ≡ Fine) × (x ≡ y)
 fine_some Fine x y e = (refl, cc)

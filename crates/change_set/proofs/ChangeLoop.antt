@@ -7,6 +7,7 @@ use Rattle.std.specs.Prelude.{slice_get}
 use Rattle.std.proofs.lemmas.List.{append-nil}
 use Rattle.row_types.specs.declared.tables.Schema.{Schema}
 use Rattle.change_set.specs.declared.change.Change.{Change}
+use Rattle.change_set.specs.declared.form.Form.{Form}
 use Rattle.change_set.specs.declared.fault.Fault.{Fault}
 use Rattle.change_set.specs.declared.fault.Fault.TheVariants as faults
 use Rattle.change_set.specs.Reading.{Fails, with_first, next_at, changes_at, damage_at, AnswersNo}
@@ -35,27 +36,27 @@ regroup : (front : List Change) (change : Change) (read : Read) → with_front f
 regroup front change (Err place) = refl
 regroup front change (Ok x) = ap (λ (changes : List Change). Ok (changes, x.1)) (sym (append_assoc front (change ∷ []) x.0))
 
-module _ (schema : Schema) (end : ℕ) where
-  pub changes_go_on : (front : List Change) (count i : ℕ) (last : Option Change) (bytes : List ℕ) (change : Change) (after : List ℕ) (total : Read) → i < count → next_at schema last bytes ≡ Some (change, after)
-      → with_front front (changes_at schema end (count - i) last bytes) ≡ total → with_front (front ++ change ∷ []) (changes_at schema end (count - (i + 1)) (Some change) after) ≡ total
+module _ (form : Form) (schema : Schema) (end : ℕ) where
+  pub changes_go_on : (front : List Change) (count i : ℕ) (last : Option Change) (bytes : List ℕ) (change : Change) (after : List ℕ) (total : Read) → i < count → next_at form schema last bytes ≡ Some (change, after)
+      → with_front front (changes_at form schema end (count - i) last bytes) ≡ total → with_front (front ++ change ∷ []) (changes_at form schema end (count - (i + 1)) (Some change) after) ≡ total
   unfolding changes_at
   changes_go_on front count i last bytes change after total lt read so_far =
       let k : count - i ≡ suc (count - (i + 1)) = omega arith in
-      let one : with_front front (changes_at schema end (count - i) last bytes) ≡ with_front (front ++ change ∷ []) (changes_at schema end (count - (i + 1)) (Some change) after) = rw (k, read) (regroup front change (changes_at schema end (count - (i + 1)) (Some change) after)) in
+      let one : with_front front (changes_at form schema end (count - i) last bytes) ≡ with_front (front ++ change ∷ []) (changes_at form schema end (count - (i + 1)) (Some change) after) = rw (k, read) (regroup front change (changes_at form schema end (count - (i + 1)) (Some change) after)) in
       sym one ∙ so_far
 
-  pub changes_end : (fault : Fault) (front : List Change) (count i : ℕ) (last : Option Change) (bytes : List ℕ) (total : Read) → i < count → Fails fault (next_at schema last bytes)
-      → with_front front (changes_at schema end (count - i) last bytes) ≡ total → AnswersNo (damage_at (end - length bytes) fault) total
+  pub changes_end : (fault : Fault) (front : List Change) (count i : ℕ) (last : Option Change) (bytes : List ℕ) (total : Read) → i < count → Fails fault (next_at form schema last bytes)
+      → with_front front (changes_at form schema end (count - i) last bytes) ≡ total → AnswersNo (damage_at (end - length bytes) fault) total
   unfolding changes_at
   changes_end faults.NoMemory front count i last bytes total lt fails so_far = tt
   changes_end faults.Unreadable front count i last bytes total lt fails so_far =
       let k : count - i ≡ suc (count - (i + 1)) = omega arith in
-      let one : with_front front (changes_at schema end (count - i) last bytes) ≡ Err (end - length bytes) = rw (k, fails) refl in
+      let one : with_front front (changes_at form schema end (count - i) last bytes) ≡ Err (end - length bytes) = rw (k, fails) refl in
       sym so_far ∙ one
 
-  pub changes_done : (front : List Change) (count i : ℕ) (last : Option Change) (bytes : List ℕ) (total : Read) → count ≤ i → with_front front (changes_at schema end (count - i) last bytes) ≡ total → total ≡ Ok (front, bytes)
+  pub changes_done : (front : List Change) (count i : ℕ) (last : Option Change) (bytes : List ℕ) (total : Read) → count ≤ i → with_front front (changes_at form schema end (count - i) last bytes) ≡ total → total ≡ Ok (front, bytes)
   unfolding changes_at
   changes_done front count i last bytes total le so_far =
       let k : count - i ≡ 0 = omega arith in
-      let one : with_front front (changes_at schema end (count - i) last bytes) ≡ Ok (front, bytes) = rw k (ap (λ (changes : List Change). Ok (changes, bytes)) (append-nil front)) in
+      let one : with_front front (changes_at form schema end (count - i) last bytes) ≡ Ok (front, bytes) = rw k (ap (λ (changes : List Change). Ok (changes, bytes)) (append-nil front)) in
       sym so_far ∙ one

@@ -1,5 +1,6 @@
 -- A change that is read fits the schema and stands in the bytes, and one that fits is read again.
 --     change_takes, change_again      both ways
+--     kinds_in      the columns of a table may be
 --     bytes_when_fit      a change that fits has bytes
 use Rattle.std.proofs.Common.{◌≡◌, ℕ, zero, suc, ◌^◌, ◌<◌, cond, ltb, List, [], ◌∷◌, ◌++◌, length, get_or, Some, None, refl, ap, subst, ◌∙◌, append_assoc, arith}
 use Rattle.std.specs.Int.{w16, w64, to_be_bytes}
@@ -19,7 +20,7 @@ use Rattle.change_set.proofs.Fields.{IsBytes, bytes_rest, bind_some, when_some, 
 use Rattle.change_set.proofs.CellsAgain.{AreKinds, kinds_of, kinds_at, cells_take, cells_again, cells_short}
 
 -- the columns of a table may be
-kinds_in : (tables : List TableDef) (table : ℕ) → AllByRecursion IsTable tables → AreKinds (get_or tables table no_table).columns
+pub kinds_in : (tables : List TableDef) (table : ℕ) → AllByRecursion IsTable tables → AreKinds (get_or tables table no_table).columns
 kinds_in [] table valid = tt
 kinds_in (def ∷ defs) zero valid = kinds_of def.columns valid.0.columns.each
 kinds_in (def ∷ defs) (suc table) valid = kinds_in defs table valid.1

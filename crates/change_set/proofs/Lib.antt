@@ -1,16 +1,38 @@
 mod CellLoop
-mod CellsAgain
+pub mod CellsAgain
 mod ChangeLoop
-mod ChangesAgain
+pub mod ChangesAgain
 mod Fields
 mod Keyed
-mod SetsAgain
-mod RowTests
-mod NetMembers
-mod NetOrder
+pub mod SetsAgain
+pub mod RowTests
+pub mod NetMembers
+pub mod NetOrder
 mod PutNet
-mod Nets
+pub mod Nets
 mod NoNet
-mod NetApplies
-mod ShortPayload
-mod NetFits
+pub mod NetApplies
+pub mod ShortPayload
+pub mod NetFits
+pub mod FromEmpty
+pub mod ValidAlone
+mod Slots
+mod NoteSteps
+mod Loops
+mod SlotNotes
+mod OldRows
+mod NetNotes
+mod FromNotes
+mod OneOrder
+mod Cleared
+mod ClearSteps
+mod Searched
+mod CounterNotes
+mod Filled
+mod Applied
+mod Stands
+mod Back
+mod FoundRow
+mod FillSteps
+mod Carried
+mod CodedSchema

@@ -47,7 +47,7 @@ row_in (Delete t key) = key
 row_in (Count t counter) = []
 
 -- a change that puts a row, by its table
-put_member : (table : ℕ) (changes : List Change) (row : List Value) → Contains changes (Put table row) → Contains (rows_put table changes) row
+pub put_member : (table : ℕ) (changes : List Change) (row : List Value) → Contains changes (Put table row) → Contains (rows_put table changes) row
 put_member table [] row inside = absurd (no_member (Put table row) inside)
 put_member table (Put t other ∷ changes) row inside =
     elim (contains_cases (Put t other) changes (Put table row) inside) [
@@ -71,7 +71,7 @@ put_member table (Count t counter ∷ changes) row inside =
       | inr later ↦ put_member table changes row later
     ]
 
-member_put : (table : ℕ) (changes : List Change) (row : List Value) → Contains (rows_put table changes) row → Contains changes (Put table row)
+pub member_put : (table : ℕ) (changes : List Change) (row : List Value) → Contains (rows_put table changes) row → Contains changes (Put table row)
 member_put table [] row inside = absurd (no_member row inside)
 member_put table (Put t other ∷ changes) row inside =
     elim (cases_Bool (eqb t table)) [
@@ -86,7 +86,7 @@ member_put table (Delete t key ∷ changes) row inside = contains_later (Delete 
 member_put table (Count t counter ∷ changes) row inside = contains_later (Count t counter) changes (Put table row) (member_put table changes row inside)
 
 -- the counter that a set gives a table, or that no change gives it one
-abbrev Counts : ℕ → ℕ → List Change → Type 0
+abbrev pub Counts : ℕ → ℕ → List Change → Type 0
 Counts table before changes =
     ((counter : ℕ) × Contains changes (Count table counter) × (counter_put table before changes ≡ counter))
     ⊎ (((counter : ℕ) → Contains changes (Count table counter) → ⊥) × (counter_put table before changes ≡ before))
@@ -102,7 +102,7 @@ counts_later table before c changes is other (inr none) =
       is ∙ none.1,
     )
 
-counts : (table before : ℕ) (changes : List Change) → Counts table before changes
+pub counts : (table before : ℕ) (changes : List Change) → Counts table before changes
 counts table before [] = inr ((λ counter inside. no_member (Count table counter) inside), refl)
 counts table before (Put t row ∷ changes) = counts_later table before (Put t row) changes refl (λ counter same. absurd cc) (counts table before changes)
 counts table before (Delete t key ∷ changes) = counts_later table before (Delete t key) changes refl (λ counter same. absurd cc) (counts table before changes)
@@ -117,7 +117,7 @@ module _ (schema : Schema) (changes : List Change) (ascending : IsAscending (cha
   columns = key_columns schema table
 
   -- the rows that are put are apart
-  puts_apart : (some : List Change) → IsAscending (change_cmp schema) some → AreApart (row_cmp columns) (rows_put table some)
+  pub puts_apart : (some : List Change) → IsAscending (change_cmp schema) some → AreApart (row_cmp columns) (rows_put table some)
   puts_apart [] ascends = tt
   puts_apart (Delete t key ∷ some) ascends = puts_apart some ascends.1
   puts_apart (Count t counter ∷ some) ascends = puts_apart some ascends.1

@@ -10,7 +10,6 @@ use Rattle.row_types.specs.declared.columns.Fit.TheVariants.{Fine}
 use Rattle.row_types.specs.declared.tables.Schema.{Schema}
 use Rattle.row_types.specs.Fit.{fit_of}
 use Rattle.row_types.specs.Valid.{IsHeld}
-use Rattle.table_rows.specs.Database.{Holding}
 use Rattle.change_set.specs.declared.change.Change.{Change}
 use Rattle.change_set.specs.declared.change.Change.TheVariants.{Put, Delete, Count}
 use Rattle.change_set.specs.Sets.{def_in, key_columns, change_cmp}
@@ -47,6 +46,12 @@ pub record AreChanges (schema : Schema) (changes : List Change) : Type 0 where
   pub ascending : IsAscending (change_cmp schema) changes
   pub most : length changes < 2 ^ 32
 
--- Each integer of all rows has 64 bits.
-abbrev pub AreRowsHeld : List Holding → Type 0
-AreRowsHeld tables = AllByRecursion (λ (table : Holding). AllByRecursion (AllByRecursion IsHeld) table.rows) tables
+-- Each integer of a change's values has 64 bits.
+abbrev pub IsHeldIn : Change → Type 0
+IsHeldIn (Put table row) = AllByRecursion IsHeld row
+IsHeldIn (Delete table key) = AllByRecursion IsHeld key
+IsHeldIn (Count table counter) = Unit {0}
+
+-- And each integer of all of them.
+abbrev pub AreValuesHeld : List Change → Type 0
+AreValuesHeld changes = AllByRecursion IsHeldIn changes

@@ -2,7 +2,10 @@ pub mod Sets
 pub mod Keys
 pub mod Fitting
 pub mod Payload
+pub mod Forms
 pub mod Reading
 pub mod Net
 pub mod Putting
+pub mod Touched
+pub mod Steps
 pub mod Examples

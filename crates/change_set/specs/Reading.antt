@@ -1,5 +1,5 @@
 -- What bytes say, from left to right.
-use Rattle.std.specs.Prelude.{◌≡◌, ℕ, zero, suc, ◌-◌, Bool, true, ◌==◌, nat_lt, if◌then◌else◌, List, [], ◌∷◌, length, take, drop, Option, Some, None, Result, Ok, Err}
+use Rattle.std.specs.Prelude.{◌≡◌, ℕ, zero, suc, ◌-◌, Bool, true, ◌&&◌, ◌==◌, nat_lt, if◌then◌else◌, List, [], ◌∷◌, length, take, drop, Option, Some, None, Result, Ok, Err}
 use Rattle.std.specs.Int.{Width, w16, w32, w64, byte_len, from_be_bytes, cast_signed}
 use Rattle.std.specs.Ordering.{is_lt}
 use Rattle.row_types.specs.declared.values.Value.{Value}
@@ -11,12 +11,15 @@ use Rattle.row_types.specs.declared.tables.Schema.{Schema}
 use Rattle.row_types.specs.Fit.{fit_of}
 use Rattle.change_set.specs.declared.change.Change.{Change}
 use Rattle.change_set.specs.declared.change.Change.TheVariants.{Put, Delete, Count}
+use Rattle.change_set.specs.declared.form.Form.{Form}
+use Rattle.change_set.specs.declared.form.Form.TheVariants as forms
 use Rattle.change_set.specs.declared.fault.Fault.{Fault}
 use Rattle.change_set.specs.declared.fault.Fault.TheVariants as faults
 use Rattle.change_set.specs.declared.damage.Damage.{Damage}
 use Rattle.change_set.specs.declared.damage.Damage.TheVariants as damage
 use Rattle.change_set.specs.Sets.{def_in, key_columns, change_cmp}
 use Rattle.change_set.specs.Fitting.{columns_at}
+use Rattle.change_set.specs.Forms.{may_have, may_count}
 
 -- The next field is read where the one before it was.
 infixl 10 ◌>>=◌
@@ -119,11 +122,11 @@ abbrev pub is_behind : Schema → Option Change → Change → Bool
 is_behind schema None change = true
 is_behind schema (Some last) change = is_lt (change_cmp schema last change)
 
--- A change that stands behind the one before it.
-unfoldable pub next_at : Schema → Option Change → List ℕ → Option (Change × List ℕ)
-next_at schema last bytes = do
+-- A change that may stand there, behind the one before it.
+unfoldable pub next_at : Form → Schema → Option Change → List ℕ → Option (Change × List ℕ)
+next_at form schema last bytes = do
   c ← change_at schema bytes
-  if is_behind schema last c.0 then Some c else None
+  if is_behind schema last c.0 && may_have form c.0 then Some c else None
 
 -- What is read of the changes behind one, if that is read, and else its place.
 abbrev pub then_at : ℕ → Option (Change × List ℕ) → (Change × List ℕ → Result (List Change × List ℕ) ℕ) → Result (List Change × List ℕ) ℕ
@@ -137,26 +140,34 @@ with_first change (Err place) = Err place
 
 -- So many changes, each behind the one before it, and the bytes that follow them; or the place of the first that is
 -- none, where the bytes end at this one.
-unfoldable pub changes_at : Schema → ℕ → ℕ → Option Change → List ℕ → Result (List Change × List ℕ) ℕ
-changes_at schema end zero last bytes = Ok ([], bytes)
-changes_at schema end (suc n) last bytes =
-    then_at (end - length bytes) (next_at schema last bytes)
-    (λ c. with_first c.0 (changes_at schema end n (Some c.0) c.1))
+unfoldable pub changes_at : Form → Schema → ℕ → ℕ → Option Change → List ℕ → Result (List Change × List ℕ) ℕ
+changes_at form schema end zero last bytes = Ok ([], bytes)
+changes_at form schema end (suc n) last bytes =
+    then_at (end - length bytes) (next_at form schema last bytes)
+    (λ c. with_first c.0 (changes_at form schema end n (Some c.0) c.1))
 
 -- Changes with no byte behind them, and else the place of the fault.
 abbrev pub whole : ℕ → Result (List Change × List ℕ) ℕ → Result (List Change) ℕ
 whole end (Err place) = Err place
 whole end (Ok x) = if length x.1 == 0 then Ok x.0 else Err (end - length x.1)
 
--- The changes behind their number, of which there is to be one at least.
-abbrev pub counted_at : Schema → ℕ → Option (ℕ × List ℕ) → Result (List Change) ℕ
-counted_at schema end None = Err 0
-counted_at schema end (Some n) =
-    if n.0 == 0 then Err 0 else whole end (changes_at schema end n.0 None n.1)
+-- The changes behind their number.
+abbrev pub counted_at : Form → Schema → ℕ → Option (ℕ × List ℕ) → Result (List Change) ℕ
+counted_at form schema end None = Err 0
+counted_at form schema end (Some n) =
+    if may_count form n.0 then whole end (changes_at form schema end n.0 None n.1) else Err 0
 
--- The set that bytes are the payload of, or the place of the first fault.
+-- The set of this form that bytes spell, or the place of the first fault.
+abbrev pub set_in : Form → Schema → List ℕ → Result (List Change) ℕ
+set_in form schema bytes = counted_at form schema (length bytes) (number_at w32 bytes)
+
+-- The set that bytes are the payload of.
 abbrev pub set_of : Schema → List ℕ → Result (List Change) ℕ
-set_of schema bytes = counted_at schema (length bytes) (number_at w32 bytes)
+set_of schema bytes = set_in forms.Payload schema bytes
+
+-- The set that they are the area of.
+abbrev pub area_set : Schema → List ℕ → Result (List Change) ℕ
+area_set schema bytes = set_in forms.Area schema bytes
 
 -- It is for this reason that reading gives nothing, unless memory ran out.
 abbrev pub AnswersNo : {Y : Type 0} → Damage → Result Y ℕ → Type 0

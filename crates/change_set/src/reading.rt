@@ -4,12 +4,14 @@ ghost use Rattle.row_types.specs.Valid.{IsValid};
 ghost use Rattle.change_set.specs.declared.change.Change.{Change};
 ghost use Rattle.change_set.specs.Sets.{def_in};
 ghost use Rattle.change_set.specs.Fitting.{AreChanges};
+ghost use Rattle.change_set.specs.Forms.{DeletesNone};
 ghost use Rattle.change_set.specs.Payload.{payload};
-ghost use Rattle.change_set.specs.Reading.{Gives, Answers, table_at, put_at, delete_at, count_at, change_at, is_behind, next_at, changes_at, set_of};
+ghost use Rattle.change_set.specs.Reading.{Gives, Answers, table_at, put_at, delete_at, count_at, change_at, is_behind, next_at, changes_at, set_in, set_of, area_set};
 
 use crate::change::{Change, ChangeSet};
 use crate::damage::Damage;
 use crate::fault::Fault;
+use crate::form::Form;
 use crate::order::{cmp_changes, key_columns};
 use crate::values::{key_of, row_of, u16_at, u32_at, u64_at};
 use row_types::{List, Schema, TableDef};
@@ -91,20 +93,21 @@ fn is_behind(schema: &Schema, last: Option<&Change>, change: &Change) -> bool
     }
 }
 
-// A change that stands behind the one before it.
+// A change that may stand there, behind the one before it.
 #[tactic(auto, unfolding(crate::specs::Reading::next_at))]
 fn next_of<'a>(
     alloc: Global,
+    form: Form,
     schema: &Schema,
     last: Option<&Change>,
     bytes: &'a [u8],
 ) -> Result<(Change, &'a [u8]), Fault>
     requires { IsValid schema.now }
     ensures { Gives (λ x. (x.0, x.1.now)) result
-        (next_at schema.now (option_copied last.entry) bytes.now) }
+        (next_at form schema.now (option_copied last.entry) bytes.now) }
 {
     let (change, rest) = change_of(alloc, schema, bytes)?;
-    if is_behind(schema, last, &change) {
+    if is_behind(schema, last, &change) && form.may_have(&change) {
         Ok((change, rest))
     } else {
         Err(Fault::Unreadable)
@@ -114,6 +117,7 @@ fn next_of<'a>(
 // So many changes, where the bytes end at this place.
 fn changes_of<'a>(
     alloc: Global,
+    form: Form,
     schema: &Schema,
     end: usize,
     count: u32,
@@ -121,12 +125,12 @@ fn changes_of<'a>(
 ) -> Result<(Vec<Change>, &'a [u8]), Damage>
     requires { IsValid schema.now }
     ensures { Answers (λ x. (x.0.items, x.1.now)) result
-        (changes_at schema.now end count None bytes.now) }
+        (changes_at form schema.now end count None bytes.now) }
 {
     let mut changes: Vec<Change> = Vec::new(alloc);
     let mut rest = bytes;
     for _ in 0..count {
-        match next_of(alloc, schema, changes.last(), rest) {
+        match next_of(alloc, form, schema, changes.last(), rest) {
             Ok((change, after)) => {
                 changes.push(change)?;
                 rest = after;
@@ -137,19 +141,19 @@ fn changes_of<'a>(
     Ok((changes, rest))
 }
 
-// The set behind the number of its changes.
-fn set_of(alloc: Global, schema: &Schema, bytes: &[u8]) -> Result<ChangeSet, Damage>
+// The set of this form behind the number of its changes.
+fn set_in(alloc: Global, form: Form, schema: &Schema, bytes: &[u8]) -> Result<ChangeSet, Damage>
     requires { IsValid schema.now }
-    ensures { Answers (λ set. set.changes) result (set_of schema.now bytes.now) }
+    ensures { Answers (λ set. set.changes) result (set_in form schema.now bytes.now) }
 {
     let (count, rest) = match u32_at(bytes) {
         Ok(read) => read,
         Err(fault) => return Err(fault.at(0)),
     };
-    if count == 0 {
+    if !form.may_count(count) {
         return Err(Damage::Bad(0));
     }
-    let (changes, rest) = changes_of(alloc, schema, bytes.len(), count, rest)?;
+    let (changes, rest) = changes_of(alloc, form, schema, bytes.len(), count, rest)?;
     if !rest.is_empty() {
         return Err(Damage::Bad(bytes.len().saturating_sub(rest.len()) as u64));
     }
@@ -171,5 +175,21 @@ pub fn read_changes(alloc: Global, schema: &Schema, bytes: &[u8]) -> Result<Chan
     // Which fault it is.
     ensures exact { Answers (λ set. set.changes) result (set_of schema.now bytes.now) }
 {
-    set_of(alloc, schema, bytes)
+    set_in(alloc, Form::Payload, schema, bytes)
+}
+
+/// The set that the bytes are the area of.
+pub fn read_area_changes(alloc: Global, schema: &Schema, bytes: &[u8]) -> Result<ChangeSet, Damage>
+    requires { IsValid schema.now }
+    // What is read is spelled so, fits the schema and deletes nothing.
+    ensures found { IfOk result (λ set. AreChanges schema.now set.changes
+        × DeletesNone set.changes × (bytes.now ≡ payload set.changes)) }
+    // What is spelled so is read, unless memory runs out.
+    ensures only { (changes : List Change) → AreChanges schema.now changes → DeletesNone changes
+        → bytes.now ≡ payload changes
+        → Answers (λ set. set.changes) result (Ok changes) }
+    // Which fault it is.
+    ensures exact { Answers (λ set. set.changes) result (area_set schema.now bytes.now) }
+{
+    set_in(alloc, Form::Area, schema, bytes)
 }

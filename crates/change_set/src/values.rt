@@ -2,6 +2,7 @@
 ghost use Rattle.std.specs.Prelude.{◌≡◌, ℕ, ◌<◌, ◌++◌, length, All, OnOk};
 ghost use Rattle.std.specs.Int.{w16, w32, w64};
 ghost use Rattle.std.specs.List.{flat_map, AllByRecursion};
+ghost use Rattle.row_types.specs.Valid.{IsHeld};
 ghost use Rattle.change_set.specs.Fitting.{columns_at};
 ghost use Rattle.change_set.specs.Payload.{value_bytes, IsShort};
 ghost use Rattle.change_set.specs.Reading.{Gives, number_at, text_at, value_at, cell_at, cells_at};
@@ -13,7 +14,8 @@ use std::alloc::{AllocError, Global};
 /// Appends a value.
 pub(crate) fn push_value(value: &Value, out: &mut Vec<u8>) -> Result<(), AllocError>
     requires { IsShort value.now }
-    ensures { OnOk result (out.new.items ≡ out.old.items ++ value_bytes value.now) }
+    ensures bytes { OnOk result (out.new.items ≡ out.old.items ++ value_bytes value.now) }
+    ensures held { OnOk result (IsHeld value.now) }
 {
     match value {
         Value::Null => out.push(0)?,
@@ -34,7 +36,9 @@ pub(crate) fn push_value(value: &Value, out: &mut Vec<u8>) -> Result<(), AllocEr
 /// Appends values one after another.
 pub(crate) fn push_values(values: &[Value], out: &mut Vec<u8>) -> Result<(), AllocError>
     requires { AllByRecursion IsShort values.now }
-    ensures { OnOk result (out.new.items ≡ out.old.items ++ flat_map value_bytes values.now) }
+    ensures bytes { OnOk result
+        (out.new.items ≡ out.old.items ++ flat_map value_bytes values.now) }
+    ensures held { OnOk result (AllByRecursion IsHeld values.now) }
 {
     for value in values {
         push_value(value, out)?;

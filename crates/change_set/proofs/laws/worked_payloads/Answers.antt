@@ -13,3 +13,11 @@ returns-clause-cut c = refl
 pub returns-clause-too_long : goal.returns-clause-too_long
 unfolding text_at value_at cell_at cells_at table_at put_at delete_at count_at change_at next_at changes_at
 returns-clause-too_long c = refl
+
+pub returns-clause-empty_area : goal.returns-clause-empty_area
+unfolding changes_at
+returns-clause-empty_area c = refl
+
+pub returns-clause-deleting : goal.returns-clause-deleting
+unfolding text_at value_at cell_at cells_at table_at put_at delete_at count_at change_at next_at changes_at
+returns-clause-deleting c = refl

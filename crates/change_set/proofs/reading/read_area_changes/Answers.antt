@@ -1,0 +1,10 @@
+use Rattle.std.proofs.Common.{ap, subst, ◌∙◌, arith}
+use Rattle.change_set.specs.Reading.{Answers, area_set}
+use Rattle.change_set.proofs.SetsAgain.{is_area, area_again}
+use Rattle.change_set.proofs.reading.read_area_changes.Goals as goal
+
+pub returns-clause-found : goal.returns-clause-found
+returns-clause-found c = is_area c.args.schema.now c.args.bytes.now c.set_in.result (λ i. omega (arith, c.type_inv.bytes i)) c.set_in.ensures
+
+pub returns-clause-only : goal.returns-clause-only
+returns-clause-only c = λ changes fits none spelled. subst (λ read. Answers (λ set. set.changes) c.set_in.result read) (ap (area_set c.args.schema.now) spelled ∙ area_again c.args.schema.now changes c.requires fits none) c.set_in.ensures
