@@ -1,11 +1,19 @@
 -- Tests that went well, and what is there.
-use Rattle.std.proofs.Common.{◌≡◌, ℕ, suc, zero, ◌<◌, Bool, true, false, ◌&&◌, List, [], ◌∷◌, length, Option, Some, None, refl, sym, subst, arith}
-use Rattle.std.specs.Prelude.{IsSomeAnd, slice_get}
+use Rattle.std.proofs.Common.{◌≡◌, ℕ, suc, zero, ◌<◌, Bool, true, false, ◌&&◌, List, [], ◌∷◌, length, Option, Some, refl, sym, subst, arith}
+use Rattle.std.specs.Prelude.{not, IsSomeAnd, slice_get}
 use Rattle.std.specs.List.{list_all, AllByRecursion}
 
 pub and_true : (a b : Bool) → (a && b) ≡ true → (a ≡ true) × (b ≡ true)
 and_true true b e = (refl, e)
 and_true false b e = absurd cc
+
+pub both_true : (a b : Bool) → a ≡ true → b ≡ true → (a && b) ≡ true
+both_true true b _ e = e
+both_true false b e _ = absurd cc
+
+pub not_true : (a : Bool) → not a ≡ true → a ≡ false
+not_true false _ = refl
+not_true true e = absurd cc
 
 pub some_same : {A : Type 0} (x y : A) → Some x ≡ Some y → x ≡ y
 some_same x y e = cc

@@ -1,6 +1,6 @@
 -- Expressions, rule by rule. What stands in parentheses is read once, as a condition or a value, and
 -- the rule around it asks which of the two it is.
-use Rattle.std.specs.Prelude.{ℕ, zero, suc, ◌+◌, ◌-◌, max, ℤ, Bool, true, false, if◌then◌else◌, List, [], ◌∷◌, ◌++◌, length, take, drop, Option, Some, None, option_and_then}
+use Rattle.std.specs.Prelude.{ℕ, zero, suc, max, ℤ, if◌then◌else◌, List, [], ◌∷◌, ◌++◌, length, Option, Some, None, option_and_then}
 use Rattle.request_types.specs.declared.filters.FilterOp.{FilterOp}
 use Rattle.request_types.specs.declared.filters.FilterOp.TheVariants as ops
 use Rattle.row_types.specs.declared.columns.Column.{Column}
@@ -18,8 +18,8 @@ use Rattle.sql_parse.specs.declared.grammar.Level.TheVariants as level
 use Rattle.sql_parse.specs.Strings.{inside, unquoted, unhexed}
 use Rattle.sql_parse.specs.Numbers.{number_of, positive, negative}
 use Rattle.sql_parse.specs.Names.{column_place, name}
-use Rattle.sql_parse.specs.Trees.{is_met, is_worth, must, leaf, negate, arith, compare, is_null, in_list, opposite, both, either}
-use Rattle.sql_parse.specs.Input.{Parser, ◌>>=◌, ◌>>◌, pure, refuse, lift, peek, take_token, spelling, eat, expect, sees}
+use Rattle.sql_parse.specs.Trees.{is_worth, must, leaf, negate, arith, compare, is_null, in_list, opposite, both, either}
+use Rattle.sql_parse.specs.Input.{Parser, ◌>>=◌, ◌>>◌, pure, refuse, lift, peek, take_token, eat, expect}
 
 -- A literal of this number, if it is one.
 abbrev pub literal_of : Option ℤ → Option Tree

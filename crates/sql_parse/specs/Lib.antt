@@ -11,4 +11,5 @@ pub mod Statements
 pub mod Standing
 pub mod Fitting
 pub mod Reading
+pub mod Spelling
 pub mod Examples

@@ -1,5 +1,5 @@
 -- Tables and columns by the names that a line gives them.
-use Rattle.std.specs.Prelude.{ℕ, ◌+◌, ◌-◌, min, List, [], ◌∷◌, length, take, drop, slice_get, Option, Some, None}
+use Rattle.std.specs.Prelude.{ℕ, ◌+◌, min, List, [], drop, slice_get, Option, Some, None}
 use Rattle.std.specs.List.{position_from}
 use Rattle.std.specs.Str.{bytes_eq, str_eq_ignore_ascii_case}
 use Rattle.row_types.specs.declared.columns.Column.{Column}

@@ -1,5 +1,5 @@
 -- Numbers by their digits.
-use Rattle.std.specs.Prelude.{ℕ, zero, suc, ◌+◌, ◌*◌, ◌-◌, ◌^◌, ◌==◌, ℤ, pos, neg_ℤ, nat_lt, List, [], ◌∷◌, fold, Option, Some, None, if◌then◌else◌}
+use Rattle.std.specs.Prelude.{ℕ, ◌+◌, ◌*◌, ◌-◌, ◌^◌, ℤ, pos, neg_ℤ, nat_lt, List, fold, Option, Some, None, if◌then◌else◌}
 
 -- A number with one digit more at its end.
 abbrev pub with_digit : ℕ → ℕ → ℕ

@@ -1,5 +1,5 @@
 -- Strings: how far one goes, and the bytes that it stands for.
-use Rattle.std.specs.Prelude.{ℕ, ◌+◌, ◌*◌, ◌-◌, ◌%◌, Bool, ◌&&◌, if◌then◌else◌, ◌==◌, nat_le, List, [], ◌∷◌, length, take, drop, Option, Some, None, is_some}
+use Rattle.std.specs.Prelude.{ℕ, ◌+◌, ◌*◌, ◌-◌, ◌%◌, ◌&&◌, if◌then◌else◌, ◌==◌, nat_le, List, [], ◌∷◌, length, take, drop, Option, Some, None, is_some}
 use Rattle.std.specs.Char.{is_ascii_hexdigit}
 use Rattle.sql_parse.specs.declared.quotes.Within.{Within}
 use Rattle.sql_parse.specs.declared.quotes.Within.TheVariants.{Bytes, Escape, Quote}

@@ -26,6 +26,7 @@ mod numbers;
 mod quotes;
 mod readings;
 mod selects;
+mod spelling_laws;
 mod statements;
 #[cfg(test)]
 mod tests;
@@ -38,4 +39,5 @@ mod values;
 pub use laws::{
     conditions_by_examples, lines_by_examples, refusals_by_examples, values_by_examples,
 };
+pub use spelling_laws::{spelled_by_examples, what_is_spelled_is_read};
 pub use statements::parse;
