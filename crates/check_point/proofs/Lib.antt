@@ -1,0 +1,5 @@
+pub mod MadeOfEmpty
+mod ShortRows
+mod TableLoop
+mod Patched
+pub mod ReadAreas
