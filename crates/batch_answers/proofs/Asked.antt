@@ -2,7 +2,7 @@
 --     reply_shown, slots_chosen, count_chosen      the rows that a find selects
 --     insert_answer      an insert
 --     change_answer      a change
-use Rattle.std.proofs.Common.{◌≡◌, ◌≢◌, ℕ, ℤ, ◌<◌, Bool, true, false, cond, IfOk, List, [], ◌∷◌, map, length, get_or, set, Option, Some, None, Result, Ok, Err, refl, ap, ap₂, sym, subst, ◌∙◌}
+use Rattle.std.proofs.Common.{◌≡◌, ◌≢◌, ℕ, ℤ, ◌<◌, Bool, true, false, cond, IfOk, List, [], ◌∷◌, map, length, set, Option, Some, None, Result, Ok, Err, refl, ap, ap₂, sym, subst, ◌∙◌}
 use Rattle.std.specs.List.{AllByRecursion}
 use Rattle.std.proofs.lemmas.List.{map-set, length-map, get_or-map}
 use Rattle.index_tree.specs.Ordered.{with_item}

@@ -8,3 +8,4 @@ pub mod Asked
 pub mod Written
 pub mod Fits
 pub mod ReplyLines
+mod Empty

@@ -3,3 +3,4 @@ pub mod Answers
 pub mod Batches
 pub mod Steps
 pub mod Examples
+pub mod Outcomes

@@ -22,6 +22,10 @@ mod finds;
 mod inserts;
 mod items;
 mod laws;
+mod runs_batches;
+mod tables_alone;
 
 pub use batches::run_batch;
 pub use laws::{items_are_answered_by_lines, worked_answers};
+pub use runs_batches::RunsBatches;
+pub use tables_alone::TablesAlone;
