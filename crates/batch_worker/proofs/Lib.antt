@@ -12,3 +12,4 @@ pub mod Joined
 pub mod Gathered
 pub mod Kept
 pub mod Turned
+pub mod WholeTurn

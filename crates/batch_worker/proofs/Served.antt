@@ -92,7 +92,7 @@ receives-unsent k m r =
 
 -- ---- sending
 
-passes-closed : (k m : Linked) (reason : Reason) → k.conn ≡ conns.Closed reason → Passes k m → m.conn ≡ conns.Closed reason
+pub passes-closed : (k m : Linked) (reason : Reason) → k.conn ≡ conns.Closed reason → Passes k m → m.conn ≡ conns.Closed reason
 passes-closed k m reason over p =
     let s = p.sends in
     let sent : s.sent.conn ≡ conns.Closed reason = kept-closed (sent_off (length s.bytes)) k.conn s.sent.conn reason (λ r. refl) s.is_sent.conn over in

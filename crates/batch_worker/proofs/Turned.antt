@@ -1,5 +1,5 @@
 -- A turn, seen from one of the connections that it lists.
-use Rattle.std.proofs.Common.{◌≡◌, ℕ, Bool, true, false, List, [], ◌∷◌, ◌++◌, map, Option, Some, None, option_map, refl, sym, ap, subst, ◌∙◌, ⊎_elim}
+use Rattle.std.proofs.Common.{◌≡◌, ℕ, Bool, true, false, List, [], ◌∷◌, ◌++◌, map, Option, Some, None, is_some, option_map, refl, sym, ap, subst, ◌∙◌, ⊎_elim}
 use Rattle.std.specs.Prelude.{if◌then◌else◌}
 use Rattle.std.specs.List.{list_all}
 use Rattle.std.proofs.lemmas.Bool.{cases_Bool, or_parts, and_parts, both_ways}
@@ -21,16 +21,17 @@ use Rattle.line_pipeline.specs.declared.conns.Conn.TheVariants as conns
 use Rattle.line_pipeline.specs.declared.reasons.Reason.{Reason}
 use Rattle.line_pipeline.specs.Live.{Live, item_of}
 use Rattle.line_pipeline.specs.Live as live
-use Rattle.line_pipeline.specs.Conn.{unsent_of, took, place_used}
+use Rattle.line_pipeline.specs.Conn.{unsent_of, took, place_used, closed}
 use Rattle.line_pipeline.specs.Gathered.{batch_of, conn_or_none, conn_of, asked}
 use Rattle.line_pipeline.specs.Settled.{asked_by, answered_by, told, CanSettle}
-use Rattle.line_pipeline.specs.Table.{conn_at, is_held}
-use Rattle.line_pipeline.proofs.Runs.{kinds_at, items_are}
+use Rattle.line_pipeline.specs.Table.{conn_at, is_held, all_changed}
+use Rattle.line_pipeline.proofs.Runs.{kinds_at, items_are, unlisted}
 use Rattle.batch_worker.specs.Linked.{LinkTable, Linked, beside, linked_at, link_at, Went, Each}
 use Rattle.batch_worker.specs.Receiving.{Receives}
 use Rattle.batch_worker.specs.Sending.{Passes}
-use Rattle.batch_worker.specs.Turn.{Gathers, settled_by}
+use Rattle.batch_worker.specs.Turn.{Gathers, with_table, settled_by}
 use Rattle.batch_worker.specs.Owed.{IsAnswered, text_for}
+use Rattle.batch_worker.proofs.Served.{passes-closed}
 use Rattle.batch_worker.proofs.Gathered.{where_listed, conn_at-all, all-held, settled-held, done_conn, two_maps, settled_at}
 
 -- ---- one that asks for nothing has no part
@@ -39,7 +40,7 @@ pub other_items : (id x : ConnId) (kinds : List ItemKind) (items : List Item) �
 other_items id x [] items apart = refl
 other_items id x (kind ∷ kinds) items apart = rw apart (other_items id x kinds items apart)
 
-asks_nothing : (schema : Schema) (cs : List (ConnId × Conn)) (ids : List ConnId) (x : ConnId) → asked schema (conn_of cs x) ≡ [] → is_listed (conns_of (batch_of schema cs ids)) x ≡ false
+pub asks_nothing : (schema : Schema) (cs : List (ConnId × Conn)) (ids : List ConnId) (x : ConnId) → asked schema (conn_of cs x) ≡ [] → is_listed (conns_of (batch_of schema cs ids)) x ≡ false
 asks_nothing schema cs [] x none = refl
 asks_nothing schema cs (id ∷ ids) x none =
     let rest = batch_of schema cs ids in
@@ -161,3 +162,59 @@ module _ {L : Type 0} (peer : L → Peer) (ids : List ConnId) (t u v : LinkTable
       (option_map peer (link_at t.links x)) (option_map peer (link_at h.links x)) (option_map peer (link_at v.links x)) nothing
       (g.receive.listed x listed held)
       (subst (λ (o : Option Linked). Went Passes o (linked_at peer v x)) at (passes.listed x listed held_s))
+
+-- ---- a turn whose batch failed
+
+some_conn : (a b : Conn) → Some a ≡ Some b → a ≡ b
+some_conn a b is = cc
+
+stays-closed : (r : Reason) (o q : Option Conn) (k n : Option Peer) → Went Passes (beside o k) (beside q n) → o ≡ Some (conns.Closed r) → q ≡ Some (conns.Closed r)
+stays-closed r None q k n pass is = absurd pass
+stays-closed r (Some a) q None n pass is = absurd pass
+stays-closed r (Some a) None (Some k) n pass is = absurd pass
+stays-closed r (Some a) (Some c) (Some k) None pass is = absurd pass
+stays-closed r (Some a) (Some c) (Some k) (Some n) pass is =
+    ap Some (passes-closed (record { conn = a; peer = k }) (record { conn = c; peer = n }) r (some_conn a (conns.Closed r) is) pass)
+
+-- one that asked for something is live, and was listed
+module _ (schema : Schema) (cs : List (ConnId × Conn)) (ids : List ConnId) (batch : Batch) (x : ConnId) (batch_is : batch.items ≡ batch_of schema cs ids) (asks : is_listed (asked_by batch) x ≡ true) where
+  asked_in : is_listed (conns_of (batch_of schema cs ids)) x ≡ true
+  asked_in = ap (λ (items : List Item). is_listed (conns_of items) x) (sym batch_is) ∙ asks
+
+  was_listed : is_listed ids x ≡ true
+  was_listed =
+      ⊎_elim
+      (λ is. is)
+      (λ none. absurd (both_ways (is_listed (conns_of (batch_of schema cs ids)) x) (unlisted schema cs ids x none) asked_in))
+      (cases_Bool (is_listed ids x))
+
+  quiet : asked schema (conn_of cs x) ≡ [] → ⊥
+  quiet none = both_ways (is_listed (conns_of (batch_of schema cs ids)) x) (asks_nothing schema cs ids x none) asked_in
+
+  lives : (o : Option Conn) → conn_at cs x ≡ o → (l : Live) × (conn_at cs x ≡ Some (conns.Live l))
+  lives None is = absurd (quiet (ap (λ (c : Option Conn). asked schema (conn_or_none c)) is))
+  lives (Some (conns.Closed q)) is = absurd (quiet (ap (λ (c : Option Conn). asked schema (conn_or_none c)) is))
+  lives (Some (conns.Live l)) is = (l, is)
+
+closed_by : (schema : Schema) (r : Reason) (b : Bool) (l : Live) → closed r (if b then took schema (conns.Live l) else conns.Live l) ≡ conns.Closed r
+closed_by schema r true l = refl
+closed_by schema r false l = refl
+
+module _ {L : Type 0} (peer : L → Peer) (ids : List ConnId) (t u s v : LinkTable L) (batch : Batch) (r : Reason) (x : ConnId) where
+  -- who asked for something is closed for this
+  pub closes : Gathers peer ids t u batch → s ≡ with_table u (record u.table { conns = all_changed (asked_by batch) (closed r) u.table.conns }) → Each peer Passes ids s v → is_listed (asked_by batch) x ≡ true → conn_at v.table.conns x ≡ Some (conns.Closed r)
+  closes g closed_is passes asks =
+      let schema = g.heard.table.schema in
+      let cs = g.heard.table.conns in
+      let l = lives schema cs ids batch x g.batch_is asks (conn_at cs x) refl in
+      let f = where_listed ids (took schema) x in
+      let taken : conn_at u.table.conns x ≡ Some (f (conns.Live l.0)) =
+      ap (λ (k : LinkTable L). conn_at k.table.conns x) g.took_is ∙ conn_at-all (took schema) ids cs x ∙ ap (option_map f) l.1 in
+      let gone : conn_at s.table.conns x ≡ Some (conns.Closed r) =
+      ap (λ (k : LinkTable L). conn_at k.table.conns x) closed_is
+      ∙ conn_at-all (closed r) (asked_by batch) u.table.conns x
+      ∙ ap (option_map (where_listed (asked_by batch) (closed r) x)) taken
+      ∙ ap (λ (b : Bool). Some (if b then closed r (f (conns.Live l.0)) else f (conns.Live l.0))) asks
+      ∙ ap Some (closed_by schema r (is_listed ids x) l.0) in
+      stays-closed r (conn_at s.table.conns x) (conn_at v.table.conns x) (option_map peer (link_at s.links x)) (option_map peer (link_at v.links x))
+      (passes.listed x (was_listed schema cs ids batch x g.batch_is asks) (ap (λ (o : Option Conn). is_some o) gone)) gone

@@ -5,3 +5,4 @@ pub mod Turn
 pub mod Told
 pub mod Steps
 pub mod Owed
+pub mod Solo

@@ -1,13 +1,13 @@
 //! What turns keep to, by their definition.
-ghost use Rattle.std.specs.Prelude.{◌≡◌, ◌⊎◌, ◌∷◌, ℕ, true, List, IsSome};
+ghost use Rattle.std.specs.Prelude.{◌≡◌, ◌⊎◌, ◌∷◌, ℕ, true, List, Some, IsSome};
 ghost use Rattle.std.specs.List.{concat};
 ghost use Rattle.fault_count.specs.Cause.{Rose};
 ghost use Rattle.line_pipeline.specs.declared.conns.Conn.TheVariants as conns;
 ghost use Rattle.line_pipeline.specs.declared.reasons.Reason.TheVariants as reasons;
 ghost use Rattle.line_pipeline.specs.declared.outcomes.Outcome.TheVariants as outcomes;
 ghost use Rattle.line_pipeline.specs.Conn.{unsent_of};
-ghost use Rattle.line_pipeline.specs.Settled.{CanSettle};
-ghost use Rattle.line_pipeline.specs.Table.{is_held};
+ghost use Rattle.line_pipeline.specs.Settled.{asked_by, CanSettle};
+ghost use Rattle.line_pipeline.specs.Table.{conn_at, is_held};
 ghost use Rattle.request_types.specs.declared.batches.Batch.{Batch};
 ghost use Rattle.request_types.specs.declared.batches.Replies.{Replies};
 ghost use Rattle.request_types.specs.declared.connections.ConnId.{ConnId};
@@ -38,6 +38,20 @@ pub fn a_turn_answers_each_connection<L: Link>()
         → is_listed ids id ≡ true → is_held old.table.conns id ≡ true
         → Went (λ before after. IsAnswered before after (text_for replies.parts id))
         (linked_at L.peer old id) (linked_at L.peer new id) }
+{}
+
+/// Each connection whose lines are in a batch that failed is closed for that.
+pub fn a_failed_batch_closes_who_asked<L: Link>()
+    ensures disk { (ids : List ConnId) (old mid new : LinkTable L) (batch : Batch) (id : ConnId)
+        → Gathers L.peer ids old mid batch
+        → Each L.peer Passes ids (settled_by mid batch outcomes.DiskFault) new
+        → is_listed (asked_by batch) id ≡ true
+        → conn_at new.table.conns id ≡ Some (conns.Closed reasons.BatchDisk) }
+    ensures memory { (ids : List ConnId) (old mid new : LinkTable L) (batch : Batch) (id : ConnId)
+        → Gathers L.peer ids old mid batch
+        → Each L.peer Passes ids (settled_by mid batch outcomes.NoMemory) new
+        → is_listed (asked_by batch) id ≡ true
+        → conn_at new.table.conns id ≡ Some (conns.Closed reasons.BatchMemory) }
 {}
 
 /// What was sent and what is queued are together what a connection was owed, as long as it is
