@@ -17,6 +17,7 @@ use Rattle.replay_script.specs.declared.events.Event.TheVariants as events
 use Rattle.replay_script.specs.Events.{event_of}
 use Rattle.table_rows.specs.Database.{empty_database}
 use Rattle.replay_turns.specs.Linked.{Linked, linked_at, has_ended, opened, on, peer_sent, peer_ended, with_room, failing_next}
+use Rattle.batch_worker.specs.declared.ends.TurnEnd.TheVariants.{Done}
 use Rattle.replay_turns.specs.Session.{Session, turn}
 use Rattle.request_types.specs.Names.{table_named}
 use Rattle.replay_turns.specs.Shown.{rows_shown}
@@ -151,12 +152,12 @@ after (events.Bytes number piece) s = with_conn number (peer_sent piece) s
 after (events.End number) s = with_conn number peer_ended s
 after (events.Room number count) s = with_conn number (with_room count) s
 after (events.Fault number) s = with_conn number failing_next s
-after (events.Turn port numbers) s = with_session s (turn numbers (session_of s)).1
+after (events.Turn port numbers) s = with_session s (turn Done numbers (session_of s)).1
 after (events.Show db name) s = with_session s (session_of s)
 
 -- What an event prints.
 abbrev pub printed : Event → State → List ℕ
-printed (events.Turn port numbers) s = (turn numbers (session_of s)).0
+printed (events.Turn port numbers) s = (turn Done numbers (session_of s)).0
 printed (events.Show db name) s = rows_shown (table_named s.schema.tables db name) (session_of s).database
 printed _ s = []
 

@@ -11,6 +11,7 @@ mod printing;
 use crate::ends::{Flaw, Outcome};
 use crate::replays::printing::{outcome_of, print};
 use crate::secrets::{no_secrets, set_secret};
+use batch_answers::TablesAlone;
 use hs_outside::Sink;
 use hs_schema::empty;
 use line_pipeline::Secrets;
@@ -28,14 +29,16 @@ pub struct Replay {
     bytes_max: Option<u32>,
     secrets: Secrets,
     opened: Vec<u32>,
-    session: Option<Session>,
+    session: Option<Session<TablesAlone>>,
 }
 
 impl Model for Replay {
-    ghost use Rattle.std.specs.Prelude.{◌≡◌, ◌≤◌, IfSome};
+    ghost use Rattle.std.specs.Prelude.{◌≡◌, ◌≤◌, IfSome, option_map};
     ghost use Rattle.row_types.specs.Valid.{IsValid};
+    ghost use Rattle.table_rows.specs.Database.{database_of};
+    ghost use Rattle.table_rows.specs.Rows.{State as Tables};
     ghost use Rattle.table_rows.specs.Sizes.{most_bytes};
-    ghost use Rattle.replay_turns.specs.Session.{Session};
+    ghost use Rattle.replay_turns.specs.Session.{SessionOn, session_on};
     ghost use Rattle.hs_replay.specs.Script.{State};
 
     ghost Value = { State };
@@ -45,11 +48,11 @@ impl Model for Replay {
       bytes_max = r.bytes_max;
       secrets = r.secrets;
       opened = r.opened.items;
-      session = r.session;
+      session = option_map (session_on database_of) r.session;
     } };
 
     ghost invariant = { λ r. IsValid r.schema × IfSome r.bytes_max (λ most. most ≤ most_bytes)
-        × IfSome r.session (λ (s : Session). s.schema ≡ r.schema) };
+        × IfSome r.session (λ (s : SessionOn Tables). s.schema ≡ r.schema) };
 }
 
 impl Replay {

@@ -1,12 +1,11 @@
 -- A turn of connections over links in memory, from its two halves.
-use Rattle.std.proofs.Common.{◌≡◌, ℕ, Bool, true, false, ◌&&◌, List, [], ◌∷◌, Option, refl, sym, ap, subst, ◌∙◌, ⊎_elim}
+use Rattle.std.proofs.Common.{◌≡◌, ℕ, Bool, true, false, ◌&&◌, List, [], ◌∷◌, Option, refl, sym, ap, ◌∙◌, ⊎_elim}
 use Rattle.std.specs.Prelude.{nat_eq}
 use Rattle.std.proofs.lemmas.Bool.{cases_Bool, or_parts, both_ways}
 use Rattle.request_types.specs.declared.connections.ConnId.{ConnId}
 use Rattle.request_types.specs.declared.batches.Batch.{Batch}
-use Rattle.request_types.specs.declared.batches.Replies.{Replies}
+use Rattle.request_types.specs.declared.batches.Item.{Item}
 use Rattle.request_types.specs.Ids.{same_id, is_listed, are_once}
-use Rattle.request_types.specs.Batches.{runs_of}
 use Rattle.request_types.proofs.Ids.{same_id-is}
 use Rattle.row_types.specs.declared.tables.Schema.{Schema}
 use Rattle.row_types.specs.Valid.{are_distinct}
@@ -14,31 +13,30 @@ use Rattle.hs_outside.specs.MemoryLink.{LinkInMemory, known_link}
 use Rattle.line_pipeline.specs.declared.outcomes.Outcome.{Outcome}
 use Rattle.line_pipeline.specs.declared.outcomes.Outcome.TheVariants as outcomes
 use Rattle.line_pipeline.specs.declared.conns.Conn.{Conn}
-use Rattle.line_pipeline.specs.Conn.{took}
-use Rattle.line_pipeline.specs.Gathered.{batch_of}
+use Rattle.line_pipeline.specs.declared.reasons.Reason.{Reason}
+use Rattle.line_pipeline.specs.declared.reasons.Reason.TheVariants as reasons
+use Rattle.line_pipeline.specs.Conn.{took, refused, closed}
+use Rattle.line_pipeline.specs.Settled.{asked_by}
 use Rattle.line_pipeline.specs.Table.{Table, is_held, all_changed}
-use Rattle.line_pipeline.proofs.Runs.{groups, runs_are}
 use Rattle.table_rows.specs.Database.{Database}
-use Rattle.batch_answers.specs.Answers.{after, parts_for}
-use Rattle.batch_answers.specs.Batches.{after_runs}
-use Rattle.batch_answers.proofs.Parts.{after_by_runs}
 use Rattle.batch_worker.specs.Linked.{LinkTable, Each}
 use Rattle.batch_worker.specs.Receiving.{Receives}
 use Rattle.batch_worker.specs.Sending.{Passes}
 use Rattle.batch_worker.specs.Told.{received, passed}
-use Rattle.batch_worker.specs.Turn.{Gathers, settled_by}
+use Rattle.batch_worker.specs.Turn.{settled_by}
+use Rattle.batch_worker.specs.Solo.{Runs, Turned}
+use Rattle.batch_worker.specs.declared.ends.TurnEnd.{TurnEnd}
+use Rattle.batch_worker.specs.declared.ends.TurnEnd.TheVariants as ends
 use Rattle.replay_turns.specs.declared.entries.Entry.{Entry}
-use Rattle.replay_turns.specs.Linked.{Linked, on_all, with}
-use Rattle.replay_turns.specs.Session.{answered}
-use Rattle.replay_turns.specs.Replying.{all_replied}
+use Rattle.replay_turns.specs.Linked.{Linked, on_all, with, with_conn}
+use Rattle.replay_turns.specs.Session.{ended_by, answered}
+use Rattle.replay_turns.specs.Replying.{failed}
 use Rattle.replay_turns.specs.Entries.{link_of, all_linked, ids_at, ids_of, is_short_at, are_short, AreEntries}
-use Rattle.replay_turns.proofs.Places.{AreHeld, held_of}
 use Rattle.replay_turns.proofs.Numbers.{ids_once}
 use Rattle.replay_turns.proofs.Bridge.{on_all-is}
 use Rattle.batch_worker.proofs.Gathered.{all-held, settled-held}
-use Rattle.replay_turns.proofs.Answering.{final_conn}
-use Rattle.replay_turns.proofs.Turns.{all_replied-is}
 use Rattle.replay_turns.proofs.Over.{told_at, received-is, passed-is, passed-long, same-is}
+use Rattle.replay_turns.proofs.Batched.{done, fails, refuses}
 
 -- ---- no link was short
 
@@ -70,24 +68,35 @@ module _ (ids : List ConnId) (t h u : LinkTable LinkInMemory) (f : Conn → Conn
 pub settled_held : (u : LinkTable LinkInMemory) (batch : Batch) (outcome : Outcome) (x : ConnId) → is_held (settled_by u batch outcome).table.conns x ≡ is_held u.table.conns x
 settled_held u batch outcome x = settled-held u.table.conns batch outcome x
 
+-- who is held stays so in a whole turn
+module _ {B : Type 0} (rows : B → Database) (ran : B → List Item → Outcome → B → Type 0) (ids : List ConnId) (t v : LinkTable LinkInMemory) (book after : B) where
+  runs_held : (outcome : Outcome) → Runs known_link rows ran ids outcome t v book after → (x : ConnId) → is_held v.table.conns x ≡ is_held t.table.conns x
+  runs_held outcome r x =
+      let g = r.gathers in
+      r.passes.held x
+      ∙ settled_held r.between r.batch outcome x
+      ∙ heard_held ids t g.heard r.between (took g.heard.table.schema) g.receive (ap (λ (k : LinkTable LinkInMemory). k.table) g.took_is) x
+
+  pub turned_held : (end : TurnEnd) → Turned known_link rows ran end ids t v book after → (x : ConnId) → is_held v.table.conns x ≡ is_held t.table.conns x
+  turned_held ends.Done turned x = runs_held (outcomes.Done turned.0) turned.1 x
+  turned_held ends.DiskFault turned x = runs_held outcomes.DiskFault turned x
+  turned_held ends.NoMemory turned x = runs_held outcomes.NoMemory turned x
+  turned_held ends.NoBatch turned x =
+      turned.passes.held x
+      ∙ heard_held ids t turned.refused.heard turned.between refused turned.refused.receive (ap (λ (k : LinkTable LinkInMemory). k.table) turned.refused.refused_is) x
+
 -- ---- the whole turn
 
-module _ (t h u v : LinkTable LinkInMemory) (es : List Entry) (are : AreEntries t.table.conns es) (listed : List ℕ) (distinct : are_distinct nat_eq listed ≡ true) (batch : Batch) (replies : Replies) (db new : Database) where
+module _ (t h s v : LinkTable LinkInMemory) (es : List Entry) (are : AreEntries t.table.conns es) (listed : List ℕ) (distinct : are_distinct nat_eq listed ≡ true) (end : TurnEnd) (db new : Database) where
   abbrev ids : List ConnId
   ids = ids_at es listed
-
-  abbrev s : LinkTable LinkInMemory
-  s = settled_by u batch (outcomes.Done replies)
 
   once : are_once ids ≡ true
   once = ids_once listed es are.once distinct
 
-  module _ (receive : Each known_link Receives ids t h) (batch_is : batch.items ≡ batch_of h.table.schema h.table.conns ids) (took_is : u.table ≡ record h.table { conns = all_changed ids (took h.table.schema) h.table.conns }) (links_are : u.links ≡ h.links) (parts : replies.parts ≡ parts_for db batch.items) (rows : new ≡ after db batch.items) (passes : Each known_link Passes ids s v) (long : (x : ConnId) → is_listed ids x ≡ true → is_held v.table.conns x ≡ true → (link_of v.links x).is_short ≡ false) where
+  module _ (receive : Each known_link Receives ids t h) (links_are : s.links ≡ h.links) (s_held : (x : ConnId) → is_held s.table.conns x ≡ is_held t.table.conns x) (ended : ended_by end h.table.schema listed db (all_linked h.table.conns h.links es) ≡ (new, all_linked s.table.conns h.links es)) (passes : Each known_link Passes ids s v) (long : (x : ConnId) → is_listed ids x ≡ true → is_held v.table.conns x ≡ true → (link_of v.links x).is_short ≡ false) where
     held_in : (x : ConnId) → is_listed (ids_of es) x ≡ true → is_held t.table.conns x ≡ true
     held_in x is = are.held x ∙ is
-
-    s_held : (x : ConnId) → is_held s.table.conns x ≡ is_held t.table.conns x
-    s_held x = settled_held u batch (outcomes.Done replies) x ∙ heard_held ids t h u (took h.table.schema) receive took_is x
 
     v_long : (x : ConnId) → is_held t.table.conns x ≡ true → is_listed ids x ≡ true → (link_of v.links x).is_short ≡ false
     v_long x held is = long x is (passes.held x ∙ s_held x ∙ held)
@@ -109,39 +118,61 @@ module _ (t h u v : LinkTable LinkInMemory) (es : List Entry) (are : AreEntries 
       others = λ x is out. same-is ids s v Passes passes x (s_held x ∙ held_in x is) out;
     })
 
-    held_h : (es2 : List Entry) → AreHeld t.table.conns es2 → AreHeld h.table.conns es2
-    held_h [] held = tt
-    held_h (e ∷ es2) held = (receive.held e.id ∙ held.0, held_h es2 held.1)
-
-    replied : all_replied h.table.schema listed db (all_linked h.table.conns h.links es) ≡ (after_runs db (groups h.table.schema h.table.conns ids), all_linked s.table.conns h.links es)
-    replied =
-        all_replied-is h.links h.table h.table.schema es are.once s.table.conns listed h.table.conns db once (held_h es (held_of t.table.conns es are))
-        (λ x held. final_conn h.table u.table s.table ids batch replies db once batch_is took_is parts refl x held)
-
-    rows_are : after_runs db (groups h.table.schema h.table.conns ids) ≡ new
-    rows_are = sym (rows ∙ after_by_runs db batch.items ∙ ap (λ items. after_runs db (runs_of items)) batch_is ∙ ap (after_runs db) (runs_are h.table.schema h.table.conns ids once))
-
     schema_is : h.table.schema ≡ t.table.schema
     schema_is = ap (λ (table : Table). table.schema) receive.rest
 
     abbrev finish : Database × List Linked → Database × List Linked
     finish r = (r.0, on_all listed (with passed) r.1)
 
-    pub answered-is : answered t.table.schema listed db (all_linked t.table.conns t.links es) ≡ (new, all_linked v.table.conns v.links es)
+    pub answered-is : answered end t.table.schema listed db (all_linked t.table.conns t.links es) ≡ (new, all_linked v.table.conns v.links es)
     answered-is =
-        ap (λ (schema : Schema). answered schema listed db (all_linked t.table.conns t.links es)) (sym schema_is)
-        ∙ ap (λ (ls : List Linked). finish (all_replied h.table.schema listed db ls)) (sym heard)
-        ∙ ap finish replied
-        ∙ ap (λ (links : List (Option LinkInMemory)). (after_runs db (groups h.table.schema h.table.conns ids), on_all listed (with passed) (all_linked s.table.conns links es))) (sym links_are)
-        ∙ ap (λ (ls : List Linked). (after_runs db (groups h.table.schema h.table.conns ids), ls)) (sym sent)
-        ∙ ap (λ (d : Database). (d, all_linked v.table.conns v.links es)) rows_are
+        ap (λ (schema : Schema). answered end schema listed db (all_linked t.table.conns t.links es)) (sym schema_is)
+        ∙ ap (λ (ls : List Linked). finish (ended_by end h.table.schema listed db ls)) (sym heard)
+        ∙ ap finish ended
+        ∙ ap (λ (links : List (Option LinkInMemory)). (new, on_all listed (with passed) (all_linked s.table.conns links es))) (sym links_are)
+        ∙ ap (λ (ls : List Linked). (new, ls)) (sym sent)
 
--- the same, from what the two halves say of themselves
-pub turn-is : (t u v : LinkTable LinkInMemory) (es : List Entry) (are : AreEntries t.table.conns es) (listed : List ℕ) (listed_ids : List ConnId) (batch : Batch) (replies : Replies) (db new : Database) → are_distinct nat_eq listed ≡ true → listed_ids ≡ ids_at es listed → Gathers known_link listed_ids t u batch → replies.parts ≡ parts_for db batch.items → new ≡ after db batch.items → Each known_link Passes listed_ids (settled_by u batch (outcomes.Done replies)) v → are_short v listed_ids ≡ false → answered t.table.schema listed db (all_linked t.table.conns t.links es) ≡ (new, all_linked v.table.conns v.links es)
-turn-is t u v es are listed listed_ids batch replies db new distinct ids_are =
-    subst (λ (i : List ConnId). Gathers known_link i t u batch → replies.parts ≡ parts_for db batch.items → new ≡ after db batch.items → Each known_link Passes i (settled_by u batch (outcomes.Done replies)) v → are_short v i ≡ false → answered t.table.schema listed db (all_linked t.table.conns t.links es) ≡ (new, all_linked v.table.conns v.links es))
-    (sym ids_are)
-    (λ gathers parts rows passes none.
-    answered-is t gathers.heard u v es are listed distinct batch replies db new gathers.receive gathers.batch_is
-    (ap (λ (x : LinkTable LinkInMemory). x.table) gathers.took_is) (ap (λ (x : LinkTable LinkInMemory). x.links) gathers.took_is)
-    parts rows passes (λ x. none_short v (ids_at es listed) x none))
+-- the same, from what a turn says of itself
+module _ {B : Type 0} (rows : B → Database) (ran : B → List Item → Outcome → B → Type 0) (t v : LinkTable LinkInMemory) (es : List Entry) (are : AreEntries t.table.conns es) (listed : List ℕ) (distinct : are_distinct nat_eq listed ≡ true) (book after : B) (none : are_short v (ids_at es listed) ≡ false) where
+  abbrev those : List ConnId
+  those = ids_at es listed
+
+  long : (x : ConnId) → is_listed those x ≡ true → is_held v.table.conns x ≡ true → (link_of v.links x).is_short ≡ false
+  long x = none_short v those x none
+
+  from_runs : (end : TurnEnd) (outcome : Outcome) (r : Runs known_link rows ran those outcome t v book after) → ended_by end r.gathers.heard.table.schema listed (rows book) (all_linked r.gathers.heard.table.conns r.gathers.heard.links es) ≡ (rows after, all_linked (settled_by r.between r.batch outcome).table.conns r.gathers.heard.links es) → answered end t.table.schema listed (rows book) (all_linked t.table.conns t.links es) ≡ (rows after, all_linked v.table.conns v.links es)
+  from_runs end outcome r ended =
+      let g = r.gathers in
+      let took_it : r.between.table ≡ record g.heard.table { conns = all_changed those (took g.heard.table.schema) g.heard.table.conns } = ap (λ (k : LinkTable LinkInMemory). k.table) g.took_is in
+      answered-is t g.heard (settled_by r.between r.batch outcome) v es are listed distinct end (rows book) (rows after) g.receive
+      (ap (λ (k : LinkTable LinkInMemory). k.links) g.took_is)
+      (λ x. settled_held r.between r.batch outcome x ∙ heard_held those t g.heard r.between (took g.heard.table.schema) g.receive took_it x)
+      ended r.passes long
+
+  from_failed : (reason : Reason) (end : TurnEnd) (outcome : Outcome) (r : Runs known_link rows ran those outcome t v book after) → rows after ≡ rows book → (settled_by r.between r.batch outcome).table.conns ≡ all_changed (asked_by r.batch) (closed reason) r.between.table.conns → ((schema : Schema) (db : Database) (ls : List Linked) → ended_by end schema listed db ls ≡ (db, on_all listed (with_conn (failed schema reason)) ls)) → answered end t.table.schema listed (rows book) (all_linked t.table.conns t.links es) ≡ (rows after, all_linked v.table.conns v.links es)
+  from_failed reason end outcome r stays gone_is ends_so =
+      let g = r.gathers in
+      let gone = (settled_by r.between r.batch outcome).table.conns in
+      let took_it : r.between.table ≡ record g.heard.table { conns = all_changed those (took g.heard.table.schema) g.heard.table.conns } = ap (λ (k : LinkTable LinkInMemory). k.table) g.took_is in
+      from_runs end outcome r
+      (ends_so g.heard.table.schema (rows book) (all_linked g.heard.table.conns g.heard.links es)
+      ∙ ap (λ (ls : List Linked). (rows book, ls)) (sym (fails t g.heard r.between es are listed distinct g.receive r.batch g.batch_is took_it reason gone gone_is))
+      ∙ ap (λ (d : Database). (d, all_linked gone g.heard.links es)) (sym stays))
+
+  pub turn-is : (end : TurnEnd) → Turned known_link rows ran end those t v book after → answered end t.table.schema listed (rows book) (all_linked t.table.conns t.links es) ≡ (rows after, all_linked v.table.conns v.links es)
+  turn-is ends.Done turned =
+      let r = turned.1 in
+      let g = r.gathers in
+      from_runs ends.Done (outcomes.Done turned.0) r
+      (done t g.heard r.between es are listed distinct g.receive r.batch g.batch_is (ap (λ (k : LinkTable LinkInMemory). k.table) g.took_is) turned.0 (rows book) (rows after) r.comes.0 r.comes.1)
+  turn-is ends.DiskFault turned = from_failed reasons.BatchDisk ends.DiskFault outcomes.DiskFault turned turned.comes refl (λ schema db ls. refl)
+  turn-is ends.NoMemory turned = from_failed reasons.BatchMemory ends.NoMemory outcomes.NoMemory turned turned.comes refl (λ schema db ls. refl)
+  turn-is ends.NoBatch turned =
+      let r = turned.refused in
+      let refused_is : turned.between.table ≡ record r.heard.table { conns = all_changed those refused r.heard.table.conns } = ap (λ (k : LinkTable LinkInMemory). k.table) r.refused_is in
+      answered-is t r.heard turned.between v es are listed distinct ends.NoBatch (rows book) (rows after) r.receive
+      (ap (λ (k : LinkTable LinkInMemory). k.links) r.refused_is)
+      (λ x. heard_held those t r.heard turned.between refused r.receive refused_is x)
+      (ap (λ (ls : List Linked). (rows book, ls)) (sym (refuses t r.heard turned.between es are listed distinct r.receive turned.between.table.conns (ap (λ (k : Table). k.conns) refused_is)))
+      ∙ ap (λ (b : B). (rows b, all_linked turned.between.table.conns r.heard.links es)) (sym turned.stays))
+      turned.passes long

@@ -1,6 +1,5 @@
 -- A batch of connections that are held: it can be settled, and what it leaves.
 use Rattle.std.proofs.Common.{◌≡◌, true, List, Option, is_some, option_map, refl, ap, ◌∙◌}
-use Rattle.std.specs.List.{AllByRecursion, list_all}
 use Rattle.request_types.specs.declared.connections.ConnId.{ConnId}
 use Rattle.request_types.specs.declared.batches.Batch.{Batch}
 use Rattle.request_types.specs.declared.batches.Item.{Item}
@@ -10,32 +9,19 @@ use Rattle.request_types.specs.declared.batches.Replies.{Replies}
 use Rattle.line_pipeline.specs.declared.outcomes.Outcome.TheVariants as outcomes
 use Rattle.line_pipeline.specs.declared.conns.Conn.{Conn}
 use Rattle.line_pipeline.specs.Conn.{took, place_used}
-use Rattle.request_types.specs.Ids.{is_listed, are_once}
+use Rattle.request_types.specs.Ids.{are_once}
 use Rattle.line_pipeline.specs.Table.{Table, conn_at, is_held, all_changed}
-use Rattle.line_pipeline.specs.Settled.{asked_by, answered_by, told, settled, HasPlace, CanSettle}
+use Rattle.line_pipeline.specs.Settled.{told, settled}
 use Rattle.table_rows.specs.Database.{Database}
 use Rattle.batch_answers.specs.Batches.{parts_of}
 use Rattle.line_pipeline.specs.Gathered.{batch_of, conn_or_none, conn_of}
 use Rattle.request_types.specs.Batches.{conns_of, runs_of, heads}
 use Rattle.batch_answers.specs.Answers.{parts_for}
-use Rattle.batch_answers.proofs.Parts.{answered-heads, parts_by_runs}
-use Rattle.line_pipeline.proofs.Runs.{groups, runs_are, heads_asked, heads_once}
+use Rattle.batch_answers.proofs.Parts.{parts_by_runs}
+use Rattle.line_pipeline.proofs.Runs.{groups, runs_are, heads_once}
 use Rattle.batch_worker.proofs.Lookups.{held-map, or_none-map}
 use Rattle.batch_worker.proofs.Gathered.{where_listed, conn_at-all, done_conn, settled_at}
 use Rattle.replay_turns.proofs.Settling.{replied_conn, settled_is}
-
--- ---- it can be settled
-
-pub can_settle : (table : Table) (cs : List (ConnId × Conn)) (ids : List ConnId) (batch : Batch) (db : Database) (parts : List Part) → are_once ids ≡ true → batch.items ≡ batch_of table.schema table.conns ids → AllByRecursion (HasPlace cs) (asked_by batch) → parts ≡ parts_for db batch.items → CanSettle cs batch parts
-can_settle table cs ids batch db parts once items places is =
-    let together : are_once (heads (runs_of batch.items)) ≡ true =
-    ap (λ (its : List Item). are_once (heads (runs_of its))) items ∙ ap (λ (runs : List (ConnId × List ItemKind)). are_once (heads runs)) (runs_are table.schema table.conns ids once) ∙ heads_once table.schema table.conns ids once in
-    let named : answered_by parts ≡ heads (runs_of batch.items) = ap answered_by (is ∙ parts_by_runs db batch.items together) ∙ answered-heads db (runs_of batch.items) in
-    record {
-      places = places;
-      asked = ap (list_all (is_listed (asked_by batch))) named ∙ heads_asked batch.items;
-      once = ap are_once named ∙ together;
-    }
 
 -- ---- the connections in the end
 

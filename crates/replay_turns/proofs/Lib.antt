@@ -7,9 +7,10 @@ mod Shows
 pub mod ToldLines
 pub mod Turns
 pub mod Answering
+pub mod Failing
+pub mod Batched
 pub mod Bridge
 pub mod Over
 pub mod Answered
-mod Empty
 pub mod Owed
 pub mod Listed

@@ -9,6 +9,7 @@ use Rattle.table_rows.specs.Database.{Database}
 use Rattle.batch_worker.specs.Told.{Told, received, passed}
 use Rattle.replay_turns.specs.Linked.{Linked, linked_at, on, on_all, with}
 use Rattle.replay_turns.specs.Replying.{replied, with_replies, rows_after, all_replied}
+use Rattle.batch_worker.specs.declared.ends.TurnEnd.TheVariants.{Done}
 use Rattle.replay_turns.specs.Session.{answered}
 use Rattle.replay_turns.specs.Owed.{turned}
 use Rattle.replay_turns.proofs.Numbers.{distinct_parts}
@@ -109,7 +110,7 @@ module _ (n : ℕ) where
         ))
         (cases_Bool (nat_eq m n))
 
-    pub answered-own : (numbers : List ℕ) (db : Database) (ls : List Linked) (l : Linked) → are_distinct nat_eq numbers ≡ true → is_among n numbers ≡ true → linked_at n ls ≡ Some l → (rows : Database) × (linked_at n (answered schema numbers db ls).1 ≡ Some (with (turned schema rows) l))
+    pub answered-own : (numbers : List ℕ) (db : Database) (ls : List Linked) (l : Linked) → are_distinct nat_eq numbers ≡ true → is_among n numbers ≡ true → linked_at n ls ≡ Some l → (rows : Database) × (linked_at n (answered Done schema numbers db ls).1 ≡ Some (with (turned schema rows) l))
     answered-own numbers db ls l distinct among is =
         let heard = on_all numbers (with received) ls in
         let own = replies-own numbers db heard distinct among in (

@@ -46,7 +46,7 @@ took_lines schema l [] is none =
     ∙ ap (λ (b : Bool). conns.Live (record l { has_place = b })) (or_none l.has_place)
 took_lines schema l (line ∷ lines) is none = cc
 
-took_nothing : (schema : Schema) (conn : Conn) → asked schema conn ≡ [] → took schema conn ≡ conn
+pub took_nothing : (schema : Schema) (conn : Conn) → asked schema conn ≡ [] → took schema conn ≡ conn
 took_nothing schema (conns.Live l) none =
     took_lines schema l (taken_lines l) refl none
 took_nothing schema (conns.Closed reason) none = refl
@@ -77,7 +77,7 @@ told_none (part ∷ parts) x conn none =
     let apart = or_parts (same_id x part.conn) (is_listed (answered_by parts) x) none in
     rw apart.0 (told_none parts x conn apart.1)
 
-listed_own : (x : ConnId) (kind : ItemKind) (kinds : List ItemKind) (items : List Item) → is_listed (conns_of (map (item_of x) (kind ∷ kinds) ++ items)) x ≡ true
+pub listed_own : (x : ConnId) (kind : ItemKind) (kinds : List ItemKind) (items : List Item) → is_listed (conns_of (map (item_of x) (kind ∷ kinds) ++ items)) x ≡ true
 listed_own x kind kinds items = rw (same_id-refl x) refl
 
 module _ (schema : Schema) (cs : List (ConnId × Conn)) where

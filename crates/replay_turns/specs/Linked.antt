@@ -1,6 +1,7 @@
 -- Connections, each with the link that it stands on, in the order in which they were opened.
 use Rattle.std.specs.Prelude.{ℕ, ◌==◌, Bool, true, false, List, [], ◌∷◌, ◌++◌, Option, Some, None, if◌then◌else◌}
 use Rattle.request_types.specs.declared.ports.Port.{Port}
+use Rattle.line_pipeline.specs.declared.conns.Conn.{Conn}
 use Rattle.line_pipeline.specs.declared.conns.Conn.TheVariants as conns
 use Rattle.line_pipeline.specs.declared.secrets.Secrets.{Secrets}
 use Rattle.line_pipeline.specs.Live.{fresh}
@@ -51,6 +52,10 @@ on_all (number ∷ numbers) change ls = on_all numbers change (on number change 
 -- A connection, of which this was changed.
 abbrev pub with : (Told → Told) → Linked → Linked
 with change l = record l { told = change l.told }
+
+-- The same, of it alone.
+abbrev pub with_conn : (Conn → Conn) → Linked → Linked
+with_conn change = with (λ t. record t { conn = change t.conn })
 
 -- Its peer has sent a piece.
 abbrev pub peer_sent : List ℕ → Linked → Linked

@@ -1,21 +1,19 @@
 //! Connections by their numbers, and a turn of some of them.
 ghost use Rattle.std.specs.Prelude.{◌≡◌, [], ◌∷◌, ◌++◌, true, nat_eq, OnOk, IfOk};
 ghost use Rattle.row_types.specs.Valid.{IsValid, are_distinct};
-ghost use Rattle.table_rows.specs.Database.{database_of};
 ghost use Rattle.replay_turns.specs.Linked.{opened};
-ghost use Rattle.replay_turns.specs.Session.{answered};
+ghost use Rattle.replay_turns.specs.Session.{answered, RanBy};
 ghost use Rattle.replay_turns.specs.Entries.{is_short_at, are_short};
 
 use crate::entries::{Entry, ids_at};
-use batch_answers::run_batch;
-use batch_worker::{Links, links_new};
+use batch_answers::RunsBatches;
+use batch_worker::{Links, TurnEnd, links_new, solo_turn};
 use hs_outside::MemLink;
-use line_pipeline::{ConnId, Outcome, Secrets, conns_new};
+use line_pipeline::{ConnId, Secrets, conns_new};
 use request_types::Port;
 use row_types::Schema;
 use std::alloc::{AllocError, Global};
 use std::marker::Model;
-use table_rows::{Tables, UndoList};
 
 /// Connections, each beside its link, and the number of each. A link is made for a moment where
 /// another is changed.
@@ -71,33 +69,31 @@ impl Connections {
         Ok(())
     }
 
-    /// The connections of these numbers receive, their lines are answered, and they are sent what
-    /// waits for them. Without memory, that of a link too, it isn't said what they are.
-    pub fn answer(
+    /// The connections of these numbers receive, their lines are run as one batch, and they are sent
+    /// what waits for them. Without memory for a link, it isn't said what they are.
+    pub fn answer<B: RunsBatches>(
         &mut self,
         alloc: Global,
         listed: &[u32],
-        tables: &mut Tables,
-        schema: &Schema,
-        undo: &mut UndoList,
-    ) -> Result<(), AllocError>
+        book: &mut B,
+    ) -> Result<TurnEnd, AllocError>
         requires once { are_distinct nat_eq listed.now ≡ true }
-        requires schema { schema.now ≡ self.old.schema }
-        requires tables { schema.now ≡ tables.old.schema }
-        ensures answered { OnOk result (
-            answered schema.now listed.now (database_of tables.old) self.old.conns
-            ≡ (database_of tables.new, self.new.conns)) }
+        requires schema { self.old.schema ≡ (B.rows book.old).schema }
+        requires sound { B.sound book.old }
+        ensures answered { IfOk result (λ end.
+            answered end self.old.schema listed.now (B.rows book.old) self.old.conns
+            ≡ (B.rows book.new, self.new.conns)) }
+        ensures ran { RanBy B.ran result book.old book.new }
         ensures rest { self.new ≡ record self.old { conns = self.new.conns } }
-        ensures tables { tables.new.schema ≡ tables.old.schema }
+        ensures schema { (B.rows book.new).schema ≡ (B.rows book.old).schema }
+        ensures sound { B.sound book.new }
     {
         let ids = ids_at(alloc, &self.entries, listed)?;
-        let batch = self.links.begin_turn(alloc, &ids)?;
-        let replies = run_batch(alloc, tables, schema, &batch, undo)?;
-        self.links.end_turn(&ids, &batch, Outcome::Done(replies));
+        let end = solo_turn(alloc, book, &mut self.links, &ids);
         if are_short(&self.links, &ids) {
             return Err(AllocError);
         }
-        Ok(())
+        Ok(end)
     }
 }
 

@@ -7,6 +7,7 @@ ghost use Rattle.line_pipeline.specs.declared.conns.Conn.{Conn};
 ghost use Rattle.line_pipeline.specs.Gathered.{asked};
 ghost use Rattle.table_rows.specs.Database.{Database};
 ghost use Rattle.batch_answers.specs.Answers.{replies_to};
+ghost use Rattle.batch_worker.specs.declared.ends.TurnEnd.TheVariants.{Done};
 ghost use Rattle.batch_worker.specs.Owed.{IsServed};
 ghost use Rattle.batch_worker.specs.Told.{Told, received};
 ghost use Rattle.replay_turns.specs.Linked.{Linked, linked_at, with};
@@ -22,10 +23,11 @@ pub fn each_line_is_answered_once()
         → IsServed (turned schema db t).conn
         → owed (turned schema db t) ≡ owed t ++ replies_to db (asked schema (received t).conn) }
 
-    // Of each connection that it lists, a turn makes this, on the rows that those before it left.
+    // Of each connection that it lists, a turn that is done makes this, on the rows that those before
+    // it left.
     ensures listed { (schema : Schema) (numbers : List ℕ) (db : Database) (ls : List Linked)
         (number : ℕ) (l : Linked) → are_distinct nat_eq numbers ≡ true
         → list_any (λ other. nat_eq other number) numbers ≡ true → linked_at number ls ≡ Some l
-        → (rows : Database) × (linked_at number (answered schema numbers db ls).1
+        → (rows : Database) × (linked_at number (answered Done schema numbers db ls).1
         ≡ Some (with (turned schema rows) l)) }
 {}

@@ -1,109 +1,116 @@
-//! Connections on tables.
-ghost use Rattle.std.specs.Prelude.{◌≡◌, ◌≤◌, ◌∷◌, ◌++◌, [], true, length, nat_eq, option_map, OnOk, IfOk};
+//! Connections on what runs their batches.
+ghost use Rattle.std.specs.Prelude.{◌≡◌, ◌∷◌, ◌++◌, [], true, length, nat_eq, option_map, OnOk, IfOk};
 ghost use Rattle.row_types.specs.Valid.{IsValid, are_distinct};
-ghost use Rattle.table_rows.specs.Sizes.{most_bytes};
-ghost use Rattle.table_rows.specs.Database.{empty_database};
 ghost use Rattle.replay_turns.specs.Linked.{Linked, opened, on, linked_at, has_ended, peer_sent, peer_ended, with_room, failing_next};
-ghost use Rattle.replay_turns.specs.Session.{turn};
+ghost use Rattle.replay_turns.specs.Session.{turn, session_on, RanBy};
 ghost use Rattle.request_types.specs.Names.{table_named};
 ghost use Rattle.replay_turns.specs.Shown.{rows_shown};
 
 use crate::connections::Connections;
 use crate::sayings::Saying;
 use crate::showing::push_rows;
+use batch_answers::RunsBatches;
+use batch_worker::TurnEnd;
 use line_pipeline::Secrets;
 use request_types::{Port, table_named};
 use row_types::Schema;
 use std::alloc::{AllocError, Global};
 use std::marker::Model;
-use table_rows::{Tables, UndoList};
 
-/// Tables, and the connections whose lines they answer.
+/// Connections, and what runs the batches of their lines.
 #[derive(Drop)]
-pub struct Session {
-    schema: Schema,
-    tables: Tables,
-    undo: UndoList,
+pub struct Session<B: RunsBatches> {
+    book: B,
     connections: Connections,
 }
 
-impl Model for Session {
+impl<B: RunsBatches> Model for Session<B> {
     ghost use Rattle.std.specs.Prelude.{◌≡◌};
-    ghost use Rattle.table_rows.specs.Database.{database_of};
-    ghost use Rattle.replay_turns.specs.Session.{Session};
+    ghost use Rattle.replay_turns.specs.Session.{SessionOn};
 
-    ghost Value = { Session };
+    ghost Value = { SessionOn B };
 
     ghost view = { λ s. record {
       schema = s.connections.schema;
       secrets = s.connections.secrets;
-      database = database_of s.tables;
+      book = s.book;
       conns = s.connections.conns;
     } };
 
-    ghost invariant = { λ s. (s.schema ≡ s.connections.schema) × (s.schema ≡ s.tables.schema) };
+    ghost invariant = { λ s. ((B.rows s.book).schema ≡ s.connections.schema) × B.sound s.book };
 }
 
-impl Session {
-    /// No row and no connection.
+impl<B: RunsBatches + Drop> Session<B> {
+    /// No connection.
     pub fn new(
         alloc: Global,
         schema: &Schema,
         secrets: Secrets,
-        bytes_max: u64,
-    ) -> Result<Session, AllocError>
+        book: B,
+    ) -> Result<Session<B>, AllocError>
         requires schema { IsValid schema.now }
-        requires bytes { bytes_max ≤ most_bytes }
-        ensures { IfOk result (λ session. session ≡ record {
+        requires same { (B.rows book).schema ≡ schema.now }
+        requires sound { B.sound book }
+        ensures { IfOk result (λ new. new ≡ record {
           schema = schema.now;
           secrets = secrets;
-          database = empty_database schema.now bytes_max;
+          book = book;
           conns = [];
         }) }
     {
-        let own = schema.copy(alloc)?;
-        let other = schema.copy(alloc)?;
+        let schema = schema.copy(alloc)?;
         Ok(Session {
-            schema: own,
-            tables: Tables::new(alloc, schema, bytes_max)?,
-            undo: UndoList::list_new(alloc),
-            connections: Connections::new(alloc, other, secrets)?,
+            book,
+            connections: Connections::new(alloc, schema, secrets)?,
         })
     }
+}
 
+impl<B: RunsBatches> Session<B> {
     /// One turn of the connections of these numbers. What it prints joins the text.
     pub fn turn(
         &mut self,
         alloc: Global,
         listed: &[u32],
         text: &mut Vec<u8>,
-    ) -> Result<(), AllocError>
+    ) -> Result<TurnEnd, AllocError>
         requires { are_distinct nat_eq listed.now ≡ true }
-        ensures session { OnOk result (self.new ≡ (turn listed.now self.old).1) }
-        ensures text { OnOk result
-            (text.new.items ≡ text.old.items ++ (turn listed.now self.old).0) }
+        ensures session { IfOk result (λ end. session_on B.rows self.new
+            ≡ (turn end listed.now (session_on B.rows self.old)).1) }
+        ensures text { IfOk result (λ end. text.new.items ≡ text.old.items
+            ++ (turn end listed.now (session_on B.rows self.old)).0) }
+        ensures ran { RanBy B.ran result self.old.book self.new.book }
         ensures schema { self.new.schema ≡ self.old.schema }
     {
         let counts = self.connections.counts(alloc, listed)?;
-        self.connections.answer(
-            alloc,
-            listed,
-            &mut self.tables,
-            &self.schema,
-            &mut self.undo,
-        )?;
-        self.undo.clear();
+        let end = self.connections.answer(alloc, listed, &mut self.book)?;
         self.connections.tell_all(listed, &counts, text)?;
         self.connections.let_go_all(listed);
-        Ok(())
+        Ok(end)
     }
 
+    /// The rows of the table with these names, that of its database first, in the order of its
+    /// primary key: a line each joins the text. None does, where no table has these names.
+    pub fn show(&self, db: &[u8], name: &[u8], text: &mut Vec<u8>) -> Result<(), AllocError>
+        ensures { OnOk result (text.new.items ≡ text.old.items ++ rows_shown
+            (table_named self.now.schema.tables db.now name.now)
+            (B.rows self.now.book)) }
+    {
+        let tables = self.book.tables();
+        match table_named(tables.schema().tables.as_slice(), db, name) {
+            None => Ok(()),
+            Some(table) => push_rows(tables, table, text),
+        }
+    }
+}
+
+impl<B: RunsBatches> Session<B> {
     /// One more connection. Without memory, or where its table is full, there is none.
     pub fn open(&mut self, alloc: Global, number: u32, port: Port) -> Result<(), AllocError>
         ensures opened { OnOk result (self.new ≡ record self.old {
           conns = self.old.conns ++ opened self.old.secrets number port ∷ [];
         }) }
-        ensures schema { self.new.schema ≡ self.old.schema }
+        ensures rest { (self.new.schema ≡ self.old.schema) × (self.new.book ≡ self.old.book) }
     {
         self.connections.open(alloc, number, port)
     }
@@ -134,7 +141,7 @@ impl Session {
         ensures sent { OnOk result (self.new ≡ record self.old {
           conns = on number (peer_sent piece.now) self.old.conns;
         }) }
-        ensures schema { self.new.schema ≡ self.old.schema }
+        ensures rest { (self.new.schema ≡ self.old.schema) × (self.new.book ≡ self.old.book) }
     {
         self.connections.peer_bytes(number, piece)
     }
@@ -160,17 +167,5 @@ impl Session {
         ensures { self.new ≡ record self.old { conns = on number failing_next self.old.conns } }
     {
         self.connections.say(number, Saying::FailsNext);
-    }
-
-    /// The rows of the table with these names, that of its database first, in the order of its
-    /// primary key: a line each joins the text. None does, where no table has these names.
-    pub fn show(&self, db: &[u8], name: &[u8], text: &mut Vec<u8>) -> Result<(), AllocError>
-        ensures { OnOk result (text.new.items ≡ text.old.items
-            ++ rows_shown (table_named self.now.schema.tables db.now name.now) self.now.database) }
-    {
-        match table_named(self.tables.schema().tables.as_slice(), db, name) {
-            None => Ok(()),
-            Some(table) => push_rows(&self.tables, table, text),
-        }
     }
 }

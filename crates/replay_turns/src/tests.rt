@@ -2,6 +2,7 @@
 
 use super::*;
 use crate::sayings::Saying;
+use batch_answers::TablesAlone;
 use line_pipeline::Secrets;
 use request_types::Port;
 use row_types::{List, Schema};
@@ -9,7 +10,7 @@ use std::alloc::{AllocError, Global};
 use std::test::Fail;
 
 /// A session of no table.
-fn new_session(alloc: Global) -> Result<Session, AllocError> {
+fn new_session(alloc: Global) -> Result<Session<TablesAlone>, AllocError> {
     let schema = Schema {
         tables: List::new(alloc),
     };
@@ -17,11 +18,12 @@ fn new_session(alloc: Global) -> Result<Session, AllocError> {
         reading: None,
         writing: None,
     };
-    Session::new(alloc, &schema, secrets, 1_000)
+    let tables = TablesAlone::new(alloc, &schema, 1_000)?;
+    Session::new(alloc, &schema, secrets, tables)
 }
 
 /// The peer of connection 1 sends a piece so many times.
-fn sends(session: &mut Session, count: u32, piece: &[u8]) -> Result<(), AllocError> {
+fn sends(session: &mut Session<TablesAlone>, count: u32, piece: &[u8]) -> Result<(), AllocError> {
     for _ in 0..count {
         session.peer_bytes(1, piece)?;
     }
@@ -29,7 +31,7 @@ fn sends(session: &mut Session, count: u32, piece: &[u8]) -> Result<(), AllocErr
 }
 
 /// What the peer of a connection or its link will do.
-fn says(session: &mut Session, number: u32, saying: Saying) {
+fn says(session: &mut Session<TablesAlone>, number: u32, saying: Saying) {
     match saying {
         Saying::PeerEnds => session.peer_end(number),
         Saying::Room(count) => session.room(number, count),
@@ -40,7 +42,7 @@ fn says(session: &mut Session, number: u32, saying: Saying) {
 /// Whether a turn of this connection prints this.
 fn prints(
     alloc: Global,
-    session: &mut Session,
+    session: &mut Session<TablesAlone>,
     number: u32,
     wanted: &[u8],
 ) -> Result<bool, AllocError> {
@@ -86,7 +88,7 @@ fn a_turn_prints_what_was_sent_and_who_closed(rt: HostRuntime) -> Result<(), Fai
 }
 
 /// Whether a connection 7 is let go as soon as its peer ends.
-fn comes_and_goes(alloc: Global, session: &mut Session) -> Result<bool, AllocError> {
+fn comes_and_goes(alloc: Global, session: &mut Session<TablesAlone>) -> Result<bool, AllocError> {
     session.open(alloc, 7, Port::Writing)?;
     says(session, 7, Saying::PeerEnds);
     if !session.has_ended(7) {

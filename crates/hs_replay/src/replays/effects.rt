@@ -1,6 +1,7 @@
 //! What an event does that may come.
 ghost use Rattle.std.specs.Prelude.{◌≡◌, ◌++◌, nat_eq, true, is_none, OnOk, OnErr};
 ghost use Rattle.row_types.specs.Valid.{are_distinct};
+ghost use Rattle.batch_worker.specs.declared.ends.TurnEnd.TheVariants.{Done};
 ghost use Rattle.replay_turns.specs.Session.{turn};
 ghost use Rattle.request_types.specs.Names.{table_named};
 ghost use Rattle.replay_turns.specs.Shown.{rows_shown};
@@ -11,6 +12,8 @@ ghost use Rattle.hs_replay.specs.Running.{TableDoes};
 use crate::ends::{Flaw, Outcome};
 use crate::replays::Replay;
 use crate::secrets::copy_secrets;
+use batch_answers::TablesAlone;
+use batch_worker::TurnEnd;
 use hs_schema::{SchemaFault, SchemaLines};
 use hs_token::Token;
 use replay_turns::Session;
@@ -45,7 +48,8 @@ impl Replay {
         }
         let secrets = copy_secrets(alloc, &self.secrets)?;
         let most = self.bytes_max.unwrap_or(MOST_BYTES) as u64;
-        self.session = Some(Session::new(alloc, &self.schema, secrets, most)?);
+        let tables = TablesAlone::new(alloc, &self.schema, most)?;
+        self.session = Some(Session::new(alloc, &self.schema, secrets, tables)?);
         Ok(())
     }
 
@@ -113,12 +117,16 @@ impl Replay {
         text: &mut Vec<u8>,
     ) -> Result<(), AllocError>
         requires { are_distinct nat_eq numbers.now ≡ true }
-        ensures state { OnOk result (self.new ≡ with_session self.old (turn numbers.now (session_of self.old)).1) }
-        ensures text { OnOk result (text.new.items ≡ text.old.items ++ (turn numbers.now (session_of self.old)).0) }
+        ensures state { OnOk result (self.new ≡ with_session self.old (turn Done numbers.now (session_of self.old)).1) }
+        ensures text { OnOk result (text.new.items ≡ text.old.items ++ (turn Done numbers.now (session_of self.old)).0) }
     {
         self.begin(alloc)?;
         match &mut self.session {
-            Some(session) => session.turn(alloc, numbers, text),
+            Some(session) => match session.turn(alloc, numbers, text)? {
+                TurnEnd::Done => Ok(()),
+                // Tables alone fail by memory and by nothing else.
+                _ => Err(AllocError),
+            },
             None => Ok(()),
         }
     }
