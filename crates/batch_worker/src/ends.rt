@@ -5,10 +5,10 @@
 pub enum TurnEnd {
     /// Its batch was done, and each of its lines is answered.
     Done,
-    /// The disk failed. Nothing of its batch was done, and those that asked for something are closed.
+    /// The disk failed. Nothing of its batch was done, and who asked for something is closed.
     DiskFault,
     /// Memory ran out over its batch. The same.
     NoMemory,
-    /// Memory ran out before there was a batch. Those that hold a whole line are closed.
+    /// Memory ran out before there was a batch. Who holds a whole line is closed.
     NoBatch,
 }
