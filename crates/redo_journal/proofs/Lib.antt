@@ -1,7 +1,7 @@
 mod AppendLemmas
 mod CallLemmas
 mod CommitLemmas
-mod DoubtLemmas
+pub mod DoubtLemmas
 mod FormLemmas
 mod FreeLemmas
 mod HeaderLemmas
@@ -9,15 +9,16 @@ mod ImageLemmas
 mod LiveLemmas
 mod MakeLemmas
 pub mod Moments
+pub mod OneJournal
 mod OpenLemmas
 mod OpeningLemmas
-mod ReadingLaws
+pub mod ReadingLaws
 mod RecordLemmas
 mod RepairLemmas
 mod RootLaws
 mod RotateLemmas
 mod RunLemmas
-mod SegmentLemmas
+pub mod SegmentLemmas
 mod StandLemmas
 mod SyncLemmas
 mod TurnLemmas

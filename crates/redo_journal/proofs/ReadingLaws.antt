@@ -22,7 +22,7 @@ pub record Whole (text : List ℕ) (root : Root) (first : ℕ) (area : List ℕ)
   pub is_rooted : IsRooted text first area payloads root gate image
   pub within : gate < length image
 
-whole_run : (text : List ℕ) (root : Root) (first : ℕ) (area : List ℕ) (payloads : List (List ℕ)) (gate : ℕ) (image : List ℕ) → (whole : Whole text root first area payloads gate image) → FirstRun text whole.is_rooted.has_root.before root.gate image × IsRootAt root.gate image
+pub whole_run : (text : List ℕ) (root : Root) (first : ℕ) (area : List ℕ) (payloads : List (List ℕ)) (gate : ℕ) (image : List ℕ) → (whole : Whole text root first area payloads gate image) → FirstRun text whole.is_rooted.has_root.before root.gate image × IsRootAt root.gate image
 whole_run text root first area payloads gate image whole =
     root_run text root image whole.text_fits whole.is_rooted.has_root (omega (arith, whole.is_rooted.behind, whole.within, far root.live first area payloads gate image whole.is_rooted.segment))
 
@@ -53,7 +53,7 @@ module _ (text : List ℕ) (ps qs : List (List ℕ)) (g h : ℕ) (image : List �
       root_not_broken h image (subst (λ (n : ℕ). IsRootAt n image) at root) breaks
 
 -- a journal with a root is one
-one_whole : (text : List ℕ) (root other : Root) (first second : ℕ) (area more : List ℕ) (ps qs : List (List ℕ)) (g h : ℕ) (image : List ℕ) → Whole text root first area ps g image → (ClosedAt g image ⊎ BreaksAt g image) → Whole text other second more qs h image → (ClosedAt h image ⊎ BreaksAt h image) → (first ≡ second) × (area ≡ more) × (ps ≡ qs) × (g ≡ h)
+pub one_whole : (text : List ℕ) (root other : Root) (first second : ℕ) (area more : List ℕ) (ps qs : List (List ℕ)) (g h : ℕ) (image : List ℕ) → Whole text root first area ps g image → (ClosedAt g image ⊎ BreaksAt g image) → Whole text other second more qs h image → (ClosedAt h image ⊎ BreaksAt h image) → (first ≡ second) × (area ≡ more) × (ps ≡ qs) × (g ≡ h)
 one_whole text root other first second area more ps qs g h image whole ends whole' ends' =
     one_segment root.live first second area more ps qs g h image whole.is_rooted.segment whole.payloads_fit whole.within (blocks g ends) (subst (λ (r : Root). IsSegmentAt r.live second more qs h image) (sym same) whole'.is_rooted.segment) whole'.payloads_fit whole'.within (blocks h ends')
   where
@@ -71,17 +71,17 @@ one_whole text root other first second area more ps qs g h image whole ends whol
     blocks gate (inr breaks) = broken_blocks Any gate image breaks
 
 -- what a journal's image is
-abbrev IsPlainRun : List ℕ → ℕ → Option (List ℕ) → List (List ℕ) → ℕ → List ℕ → Type 0
+abbrev pub IsPlainRun : List ℕ → ℕ → Option (List ℕ) → List (List ℕ) → ℕ → List ℕ → Type 0
 IsPlainRun text first area payloads gate image =
     (first ≡ 0) × (area ≡ None) × FirstRun text payloads gate image × ClosedAt gate image
 
-record IsWholeRun (text : List ℕ) (first : ℕ) (area : Option (List ℕ)) (payloads : List (List ℕ)) (gate : ℕ) (image : List ℕ) : Type 0 where
-  root : Root
-  bytes : List ℕ
-  area_is : area ≡ Some bytes
-  low : first + length payloads < 2 ^ 64
-  whole : Whole text root first bytes payloads gate image
-  shut : ClosedAt gate image
+pub record IsWholeRun (text : List ℕ) (first : ℕ) (area : Option (List ℕ)) (payloads : List (List ℕ)) (gate : ℕ) (image : List ℕ) : Type 0 where
+  pub root : Root
+  pub bytes : List ℕ
+  pub area_is : area ≡ Some bytes
+  pub low : first + length payloads < 2 ^ 64
+  pub whole : Whole text root first bytes payloads gate image
+  pub shut : ClosedAt gate image
 
 form_run : (text : List ℕ) (first : ℕ) (payloads : List (List ℕ)) (area : Option (List ℕ)) (root : Option Root) (gate : ℕ) (image : List ℕ) → FitsLength text → AllByRecursion FitsLength payloads → ClosedAt gate image → IsForm text first payloads area root gate image → IsPlainRun text first area payloads gate image ⊎ IsWholeRun text first area payloads gate image
 form_run text first payloads None None gate image fits fit shut is =
@@ -97,7 +97,7 @@ form_run text first payloads (Some area) (Some root) gate image fits fit shut is
   shut = shut;
 })
 
-runs : (text : List ℕ) (contents : Contents) (image : List ℕ) (is : Journals text contents image) → IsPlainRun text contents.first contents.area contents.payloads is.gate image ⊎ IsWholeRun text contents.first contents.area contents.payloads is.gate image
+pub runs : (text : List ℕ) (contents : Contents) (image : List ℕ) (is : Journals text contents image) → IsPlainRun text contents.first contents.area contents.payloads is.gate image ⊎ IsWholeRun text contents.first contents.area contents.payloads is.gate image
 runs text contents image is =
     form_run text contents.first contents.payloads contents.area is.root is.gate image is.is.text_fits is.is.payloads_fit is.is.shut is.is.form
 
@@ -123,7 +123,7 @@ segment_whole text place image off = (
   record { open_gate = off.open_gate; cut = off.cut },
 )
 
-abbrev number_whole : (limit : ℕ) (text : List ℕ) (place : ℕ) (image : List ℕ) → (off : HasHighNumber limit text place image) → Whole text off.root off.first off.area off.payloads off.gate image
+abbrev pub number_whole : (limit : ℕ) (text : List ℕ) (place : ℕ) (image : List ℕ) → (off : HasHighNumber limit text place image) → Whole text off.root off.first off.area off.payloads off.gate image
 number_whole limit text place image off =
     record { text_fits = off.text_fits; payloads_fit = off.payloads_fit; selects = off.selects; is_rooted = off.is_rooted; within = closed_within off.gate image off.shut }
 
@@ -283,7 +283,7 @@ module _ (text image : List ℕ) where
       let broken = record_run text place image off in
       root_or_broken text payloads off.payloads gate place image run broken.0 root broken.1
 
-  same_root_gate : (payloads more : List (List ℕ)) (gate other : ℕ) → FirstRun text payloads gate image → IsRootAt gate image → FirstRun text more other image → IsRootAt other image → gate ≡ other
+  pub same_root_gate : (payloads more : List (List ℕ)) (gate other : ℕ) → FirstRun text payloads gate image → IsRootAt gate image → FirstRun text more other image → IsRootAt other image → gate ≡ other
   same_root_gate payloads more gate other run root run' root' = both_rooted text payloads more gate other image run run' root root'
 
   segment_or_number : (place other : ℕ) → HasDamagedSegment text place image → HasHighNumber (2 ^ 63) text other image → ⊥
